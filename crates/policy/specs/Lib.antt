@@ -1,0 +1,7 @@
+pub mod Keys
+pub mod Machine
+pub mod Law
+pub mod Shape
+pub mod Calls
+pub mod Order
+pub mod Queue
