@@ -5,3 +5,4 @@ pub mod Shape
 pub mod Calls
 pub mod Order
 pub mod Queue
+pub mod Lru
