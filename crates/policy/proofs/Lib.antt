@@ -4,3 +4,4 @@ pub mod Laws
 pub mod Shapes
 pub mod Queues
 pub mod Walks
+pub mod Lines

@@ -5,4 +5,6 @@ pub mod Shape
 pub mod Calls
 pub mod Order
 pub mod Queue
+pub mod Circle
 pub mod Lru
+pub mod Fifo

@@ -1,0 +1,44 @@
+// FIFO's calls.
+ghost use Rattle.policy.specs.Queue.{Queue};
+ghost use Rattle.policy.specs.Fifo.{fifo-rules, fifo-queue};
+use super::Fifo;
+use crate::circle::next_frame;
+use crate::policy::Policy;
+use base::Geometry;
+use base::Refusal;
+
+pub impl Policy for Fifo as FifoPolicy {
+    type Setting = ();
+
+    ghost State = { Queue };
+
+    ghost rules = { fifo-rules };
+
+    ghost model = { fifo-queue };
+
+    fn new(_setting: (), geometry: &Geometry) -> Fifo {
+        Fifo {
+            size: geometry.frames(),
+            filled: 0,
+            hand: 0,
+        }
+    }
+
+    fn place(&mut self) -> usize {
+        if self.filled < self.size {
+            let frame = self.filled;
+            self.filled = frame + 1;
+            return frame;
+        }
+        let frame = self.hand;
+        self.hand = next_frame(self.size, frame);
+        frame
+    }
+
+    fn use_frame(&mut self, frame: usize) -> Result<(), Refusal> {
+        if frame >= self.filled {
+            return Err(Refusal::FrameNotFilled);
+        }
+        Ok(())
+    }
+}
