@@ -4,4 +4,6 @@ pub mod Laws
 pub mod Shapes
 pub mod Queues
 pub mod Walks
-pub mod Lines
+pub mod ArrayQueues
+pub mod Circles
+pub mod CircleQueues

@@ -9,7 +9,7 @@ use lib.Dec.{eqb}
 use lib.ListN.{length, getD, set}
 use Rattle.std.specs.shelf.Lists.{All}
 use Rattle.std.proofs.shelf.Ways.{tells}
-use Rattle.std.proofs.shelf.Tests.{cases-bool, or-cases, or-right, eqb-true}
+use Rattle.std.proofs.shelf.Tests.{cases-bool, or-cases, or-right, or-from, eqb-true, ne-eqb}
 use Rattle.std.proofs.shelf.Elements.{all-weaker}
 use Rattle.policy.specs.Keys.{member, place-in, distinct, Apart, without}
 
@@ -26,6 +26,11 @@ all-member P (y ∷ ys) x h e =
 -- the first of a list is a member
 pub member-first : (x : ℕ) (xs rest : List ℕ) → xs ≡ x ∷ rest → member x xs ≡ true
 member-first x xs rest e = rw e (grind (arith, tells))
+
+-- what differs from each element is no member
+pub others-miss : (x : ℕ) (xs : List ℕ) → All (λ y. y ≡ x → ⊥) xs → member x xs ≡ false
+others-miss x [] h = refl
+others-miss x (y ∷ ys) h = or-from (eqb x y) (member x ys) (ne-eqb x y (λ e. h .0 (sym e))) (others-miss x ys (h .1))
 
 -- where a member stands
 pub place-within : (x : ℕ) (xs : List ℕ) → member x xs ≡ true → place-in x xs < length xs

@@ -3,7 +3,7 @@ use Prim.Native.Nat.{_≤_, _<_}
 use native.Mathlib.Omega.{arith}
 use borrow.Author.Needs.{needs}
 use lib.ListN.{length, getD}
-use Rattle.policy.proofs.Lines.{lru-lined, lined-next, lined-back, first-has, first-below, room-place, full-place, room-placed, back-queue}
+use Rattle.policy.proofs.ArrayQueues.{lru-lined, lined-next, lined-back, first-has, first-below, room-place, full-place, room-placed, back-queue}
 use Rattle.policy.proofs.lru.calls.LruPolicy.place.Needs as need
 
 pub ghost-self : need.ghost-self

@@ -2,7 +2,7 @@ use mathlib.Core.Path.{_≡_}
 use native.Mathlib.Omega.{arith}
 use borrow.Author.Needs.{needs}
 use lib.ListN.{length}
-use Rattle.policy.proofs.Lines.{lru-lined, lined-back}
+use Rattle.policy.proofs.ArrayQueues.{lru-lined, lined-back}
 use Rattle.policy.proofs.lru.calls.LruPolicy.use_frame.Needs as need
 
 pub ghost-self : need.ghost-self
