@@ -46,5 +46,5 @@ module _ (size n : ℕ) where
   pub full-placed : (h next : ℕ) → h < n → n ≡ size → next ≡ onward size h → queue-at size n next ≡ to-back (queue-at size n h) (queue-place (queue-at size n h))
   full-placed h next low full e =
       let moved : circle n next ≡ without h (circle n h) ++ (h ∷ []) =
-          ap (circle n) (e ∙ ap (λ k. onward k h) (sym full)) ∙ circle-next n h low ∙ sym (back-first h (behind n h)) ∙ ap (λ o. without h o ++ (h ∷ [])) (sym (circle-here n h low)) in
+      ap (circle n) (e ∙ ap (λ k. onward k h) (sym full)) ∙ circle-next n h low ∙ sym (back-first h (behind n h)) ∙ ap (λ o. without h o ++ (h ∷ [])) (sym (circle-here n h low)) in
       ap (λ (o : List ℕ). record { size = size; order = o }) moved ∙ ap (to-back (queue-at size n h)) (full-place h low (omega arith))

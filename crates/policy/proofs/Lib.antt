@@ -7,3 +7,12 @@ pub mod Walks
 pub mod ArrayQueues
 pub mod Circles
 pub mod CircleQueues
+pub mod Classes
+pub mod CountOrders
+pub mod Rings
+pub mod Sweeps
+pub mod CountPlaces
+pub mod Counts
+pub mod Simulations
+pub mod Marks
+pub mod Dials

@@ -9,7 +9,7 @@ use lib.Dec.{eqb}
 use lib.ListN.{length, getD, set}
 use Rattle.std.specs.shelf.Lists.{All}
 use Rattle.std.proofs.shelf.Ways.{tells}
-use Rattle.std.proofs.shelf.Tests.{cases-bool, or-cases, or-right, or-from, eqb-true, ne-eqb}
+use Rattle.std.proofs.shelf.Tests.{cases-bool, or-cases, or-left, or-right, or-from, eq-eqb, eqb-true, ne-eqb}
 use Rattle.std.proofs.shelf.Elements.{all-weaker}
 use Rattle.policy.specs.Keys.{member, place-in, distinct, Apart, without}
 
@@ -26,6 +26,11 @@ all-member P (y ∷ ys) x h e =
 -- the first of a list is a member
 pub member-first : (x : ℕ) (xs rest : List ℕ) → xs ≡ x ∷ rest → member x xs ≡ true
 member-first x xs rest e = rw e (grind (arith, tells))
+
+-- what stands somewhere in a list is a member
+pub member-at : (x : ℕ) (a b : List ℕ) → member x (a ++ (x ∷ b)) ≡ true
+member-at x [] b = or-left (eqb x x) _ (eq-eqb x x refl)
+member-at x (y ∷ a) b = or-right (eqb x y) _ (member-at x a b)
 
 -- what differs from each element is no member
 pub others-miss : (x : ℕ) (xs : List ℕ) → All (λ y. y ≡ x → ⊥) xs → member x xs ≡ false

@@ -8,3 +8,6 @@ pub mod Queue
 pub mod Circle
 pub mod Lru
 pub mod Fifo
+pub mod Clock
+pub mod Dial
+pub mod Counting

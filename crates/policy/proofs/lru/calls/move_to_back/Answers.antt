@@ -31,7 +31,7 @@ returns-then-carried-frame c =
     let rest : 1 ≤ length (drop j (take n ys)) = omega (arith, length-drop j (take n ys)) in
     let many : length old ≡ n = length-take-le n (c .args .order .now) (omega arith) in
     let same : put-in j n ys f ≡ old ++ (f ∷ []) =
-        ap (put-in j n ys) (sym (c .if-carried-frame .taken)) ∙ walk-step i j n xs v (omega arith) (omega arith) (omega arith) ∙ c .loop-i .inv .2 in
+    ap (put-in j n ys) (sym (c .if-carried-frame .taken)) ∙ walk-step i j n xs v (omega arith) (omega arith) (omega arith) ∙ c .loop-i .inv .2 in
     sym (put-out j n ys (omega arith)) ∙ moved-last f (take j ys) (drop j (take n ys)) old (distinct-apart old (c .pre .once ∙ sym many)) (c .pre .has) rest same
 
 pub loop-i-again : need.loop-i-again
@@ -42,8 +42,7 @@ loop-i-again c =
     let more : take i xs ≡ take j xs ++ (getD xs j 0 ∷ []) = ap (λ k. take k xs) e ∙ take-more xs j 0 (omega arith) in
     let split : (member f (take j xs) || eqb f (getD xs j 0)) ≡ true = sym (member-push f (getD xs j 0) (take j xs)) ∙ sym (ap (member f) more) ∙ c .loop-i .inv .1 in
     let ahead : member f (take j xs) ≡ true =
-        elim (or-cases (member f (take j xs)) (eqb f (getD xs j 0)) split) [ inl h ↦ h | inr h ↦ absurd (c .if-carried-frame .left (sym (eqb-true f (getD xs j 0) h))) ] in
-    (
+    elim (or-cases (member f (take j xs)) (eqb f (getD xs j 0)) split) [ inl h ↦ h | inr h ↦ absurd (c .if-carried-frame .left (sym (eqb-true f (getD xs j 0) h))) ] in (
       length-set xs j v ∙ c .loop-i .inv .0,
       ap (member f) (take-set xs j v) ∙ ahead,
       walk-step i j n xs v (omega arith) (omega arith) (omega arith) ∙ c .loop-i .inv .2,

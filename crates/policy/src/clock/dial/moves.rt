@@ -1,0 +1,36 @@
+// How the hand moves.
+ghost use mathlib.Core.Path.{_≡_};
+ghost use mathlib.Core.Bool.{true};
+ghost use Prim.Native.Nat.{_≤_, _<_};
+ghost use lib.ListN.{set};
+ghost use Rattle.policy.specs.Circle.{onward};
+ghost use Rattle.policy.specs.Clock.{sweep};
+ghost use Rattle.policy.specs.Dial.{full-clock};
+use super::Dial;
+use crate::circle::next_frame;
+
+impl Dial {
+    // Clears marks and moves the hand on, until the mark under it is clear.
+    pub fn sweep(&mut self, size: usize)
+        requires most { ⌜ size ≤ 64 ⌝ }
+        requires within { ⌜ now self .hand < size ⌝ }
+        ensures within { λ _. ⌜ now (self .exit) .hand < size ⌝ }
+        ensures after { λ _. ⌜ full-clock size (now (self .exit)) ≡ sweep size (full-clock size (now (self .entry))) ⌝ }
+    {
+        while self.marks[self.hand] {
+            self.marks[self.hand] = false;
+            self.hand = next_frame(size, self.hand);
+        }
+    }
+
+    // Sets the mark of a frame and leaves the hand one past it.
+    pub fn take(&mut self, size: usize, frame: usize)
+        requires most { ⌜ size ≤ 64 ⌝ }
+        requires within { ⌜ frame < size ⌝ }
+        ensures hand { λ _. ⌜ now (self .exit) .hand ≡ onward size frame ⌝ }
+        ensures marks { λ _. ⌜ now (self .exit) .marks ≡ set (now (self .entry) .marks) frame true ⌝ }
+    {
+        self.marks[frame] = true;
+        self.hand = next_frame(size, frame);
+    }
+}
