@@ -1,7 +1,8 @@
 pub mod Members
 pub mod Steps
-pub mod Laws
 pub mod Shapes
+pub mod Machines
+pub mod Laws
 pub mod Queues
 pub mod Walks
 pub mod ArrayQueues
