@@ -80,10 +80,6 @@ module _ (size n : ℕ) (xs : List ℕ) (fits : n ≤ length xs) where
   pub full-place : 1 ≤ n → size ≤ n → getD xs 0 0 ≡ queue-place (queue-in size n xs)
   full-place some l = rw (length-take-le n xs fits, le-ltb n size l) (sym (getD-take n xs 0 0 some))
 
-  pub room-placed : Lined n xs → n < length xs → n < size → queue-in size (n + 1) (set xs n n) ≡ to-back (queue-in size n xs) (queue-place (queue-in size n xs))
-  room-placed h l r =
+  pub room-placed : Lined n xs → n < length xs → queue-in size (n + 1) (set xs n n) ≡ to-back (queue-in size n xs) n
+  room-placed h l =
       ap (λ (o : List ℕ). record { size = size; order = o }) (take-more-set xs n n l ∙ ap (λ o. o ++ (n ∷ [])) (sym (lined-new n xs fits h)))
-      ∙ ap (to-back (queue-in size n xs)) (room-place r)
-
-  pub back-queue : (ys : List ℕ) (f g : ℕ) → f ≡ g → take n ys ≡ without f (take n xs) ++ (f ∷ []) → queue-in size n ys ≡ to-back (queue-in size n xs) g
-  back-queue ys f g e d = ap (λ (o : List ℕ). record { size = size; order = o }) d ∙ ap (to-back (queue-in size n xs)) e

@@ -6,6 +6,7 @@ ghost use lib.ListN.{take};
 ghost use Rattle.policy.specs.Keys.{member, distinct};
 
 mod calls;
+mod order;
 
 pub use calls::LruPolicy;
 

@@ -12,7 +12,7 @@ use Rattle.std.proofs.shelf.Tests.{or-cases, eqb-true}
 use Rattle.policy.specs.Keys.{member}
 use Rattle.policy.proofs.Members.{member-push, distinct-apart}
 use Rattle.policy.proofs.Walks.{put-in, walk-step, put-out, moved-last}
-use Rattle.policy.proofs.lru.calls.move_to_back.Needs as need
+use Rattle.policy.proofs.lru.order.shift_to_back.Needs as need
 
 pub loop-i-holds : need.loop-i-holds
 loop-i-holds c =

@@ -4,7 +4,7 @@ use mathlib.Core.List.{[], _∷_, _++_}
 use lib.ListN.{length, take}
 use Rattle.policy.specs.Keys.{member}
 use Rattle.policy.proofs.Walks.{put-in}
-use Rattle.policy.proofs.lru.calls.move_to_back.Given as given
+use Rattle.policy.proofs.lru.order.shift_to_back.Given as given
 
 -- the frame is still ahead; what is carried, put in where the walk stands, gives the old order and the frame
 abbrev pub Inv-loop-i : given.InvT-loop-i
