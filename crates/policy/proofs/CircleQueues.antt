@@ -1,5 +1,5 @@
 -- FIFO's hand goes through the queue. Assumes nothing.
-use mathlib.Core.Path.{_≡_, refl, sym, ap, _∙_}
+use mathlib.Core.Path.{_≡_, refl, sym, ap, ap₂, _∙_}
 use mathlib.Core.List.{List, [], _∷_, _++_}
 use mathlib.Core.Logic.{inl, inr}
 use Prim.Native.Nat.{ℕ, _+_, _-_, _≤_, _<_}
@@ -33,18 +33,18 @@ module _ (size n : ℕ) where
   pub room-place : n < size → n ≡ queue-place (queue-at size n 0)
   room-place l = rw (length-circle n 0 (omega arith), lt-ltb n size l)
 
-  pub room-placed : n < size → queue-at size (n + 1) 0 ≡ to-back (queue-at size n 0) (queue-place (queue-at size n 0))
-  room-placed l =
+  pub room-placed : queue-at size (n + 1) 0 ≡ to-back (queue-at size n 0) n
+  room-placed =
       let new : without n (circle n 0) ≡ circle n 0 = rw (circle-start n) (without-misses n (upward 0 n) (others-miss n (upward 0 n) (others n 0 n (inr (omega arith))))) in
       let more : circle (n + 1) 0 ≡ circle n 0 ++ (n ∷ []) = circle-start (n + 1) ∙ upward-push n ∙ ap (λ o. o ++ (n ∷ [])) (sym (circle-start n)) in
-      ap (λ (o : List ℕ). record { size = size; order = o }) (more ∙ ap (λ o. o ++ (n ∷ [])) (sym new)) ∙ ap (to-back (queue-at size n 0)) (room-place l)
+      ap (λ (o : List ℕ). record { size = size; order = o }) (more ∙ ap (λ o. o ++ (n ∷ [])) (sym new))
 
   -- a place with all frames filled
   pub full-place : (h : ℕ) → h < n → size ≤ n → h ≡ queue-place (queue-at size n h)
   full-place h low l = rw (length-circle n h (omega arith), le-ltb n size l, circle-here n h low)
 
-  pub full-placed : (h next : ℕ) → h < n → n ≡ size → next ≡ onward size h → queue-at size n next ≡ to-back (queue-at size n h) (queue-place (queue-at size n h))
-  full-placed h next low full e =
+  pub full-placed : (h f next : ℕ) → h < n → n ≡ size → f ≡ h → next ≡ onward size f → queue-at size n next ≡ to-back (queue-at size n h) f
+  full-placed h f next low full front e =
       let moved : circle n next ≡ without h (circle n h) ++ (h ∷ []) =
-      ap (circle n) (e ∙ ap (λ k. onward k h) (sym full)) ∙ circle-next n h low ∙ sym (back-first h (behind n h)) ∙ ap (λ o. without h o ++ (h ∷ [])) (sym (circle-here n h low)) in
-      ap (λ (o : List ℕ). record { size = size; order = o }) moved ∙ ap (to-back (queue-at size n h)) (full-place h low (omega arith))
+      ap (circle n) (e ∙ ap₂ onward (sym full) front) ∙ circle-next n h low ∙ sym (back-first h (behind n h)) ∙ ap (λ o. without h o ++ (h ∷ [])) (sym (circle-here n h low)) in
+      ap (λ (o : List ℕ). record { size = size; order = o }) moved ∙ ap (to-back (queue-at size n h)) (sym front)

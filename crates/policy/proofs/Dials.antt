@@ -1,17 +1,16 @@
 -- The sweep as the code makes it, over the marks in front of an array. Assumes nothing.
-use mathlib.Core.Path.{_≡_, refl, sym, ap, ap₂, _∙_}
+use mathlib.Core.Path.{_≡_, refl, sym, ap, _∙_}
 use mathlib.Core.Bool.{Bool, true, false, cond}
 use mathlib.Core.List.{List, [], _∷_}
 use Prim.Native.Nat.{ℕ, zero, suc, _+_, _<_, _≤_}
 use native.Mathlib.Omega.{arith}
 use lib.Dec.{ltb}
-use lib.ListN.{length, getD, set, take, replicate}
+use lib.ListN.{length, getD, set, take}
 use Rattle.std.specs.shelf.Lists.{countBy}
 use Rattle.std.proofs.shelf.Sums.{sumBy-set, countBy-le-length}
-use Rattle.std.proofs.shelf.Lists.{length-take-le, getD-take, take-replicate}
-use Rattle.std.proofs.shelf.Tests.{cond-true, lt-ltb, le-ltb}
+use Rattle.std.proofs.shelf.Lists.{length-take-le, getD-take}
 use Rattle.policy.specs.Circle.{onward}
-use Rattle.policy.specs.Clock.{ClockState, cleared, sweep, swept, clock-place, taken}
+use Rattle.policy.specs.Clock.{ClockState, cleared, sweep, taken}
 
 -- how many marks are set
 abbrev pub marked : List Bool → ℕ
@@ -62,40 +61,11 @@ module _ (size hand : ℕ) (ms : List Bool) (fits : size ≤ length ms) (within 
   pub left-stops : getD ms hand false ≡ false → Left size hand ms t → clock-in size size hand ms ≡ t
   left-stops clear (n, few, left) = sym (sweep-stops n (clock-in size size hand ms) (here ∙ clear)) ∙ left
 
--- a new clock
-pub new-clock : (n k : ℕ) → n ≡ k → n ≤ 64 → clock-in n 0 0 (replicate 64 false) ≡ record { size = k; filled = 0; hand = 0; marks = replicate k false }
-new-clock n k e l = rw (take-replicate n 64 false l, e)
+-- a frame given to a key
+pub taken-in : (size filled hand f filled′ hand′ : ℕ) (ms ms′ : List Bool) → filled′ ≡ cond (ltb filled size) (filled + 1) filled → hand′ ≡ onward size f → ms′ ≡ set ms f true →
+    clock-in size filled′ hand′ ms′ ≡ taken (clock-in size filled hand ms) f
+taken-in size filled hand f filled′ hand′ ms ms′ n h m = rw (n, h, m, take-set-in size f ms true)
 
--- a place while there is room
-module _ (size filled hand : ℕ) (ms : List Bool) (room : filled < size) where
-  pub room-place : filled ≡ clock-place (clock-in size filled hand ms)
-  room-place = rw (lt-ltb filled size room)
-
-  pub room-placed : (hand′ : ℕ) (ms′ : List Bool) → hand′ ≡ onward size filled → ms′ ≡ set ms filled true →
-      clock-in size (filled + 1) hand′ ms′ ≡ taken (swept (clock-in size filled hand ms)) (clock-place (clock-in size filled hand ms))
-  room-placed hand′ ms′ h m =
-      let s = clock-in size filled hand ms in
-      let more = lt-ltb filled size room in
-      let here : clock-in size (filled + 1) hand′ ms′ ≡ taken s filled = rw (h, m, take-set-in size filled ms true, more) in
-      here ∙ ap₂ taken (sym (cond-true (ltb filled size) s (sweep size s) more)) room-place
-
--- a place with all frames filled, after a sweep to the frame f
-module _ (size filled hand f : ℕ) (ms ns : List Bool) (full : filled ≡ size) (end : clock-in size size f ns ≡ sweep size (clock-in size size hand ms)) where
-  over : ltb size size ≡ false
-  over = le-ltb size size (omega arith)
-
-  stopped : swept (clock-in size filled hand ms) ≡ clock-in size size f ns
-  stopped = rw (full, over) (sym end)
-
-  pub full-place : f ≡ clock-place (clock-in size filled hand ms)
-  full-place = rw (full, over) (ap (λ (s : ClockState). s .hand) end)
-
-  pub full-placed : (hand′ : ℕ) (ns′ : List Bool) → hand′ ≡ onward size f → ns′ ≡ set ns f true →
-      clock-in size filled hand′ ns′ ≡ taken (swept (clock-in size filled hand ms)) (clock-place (clock-in size filled hand ms))
-  full-placed hand′ ns′ h m =
-      let here : clock-in size filled hand′ ns′ ≡ taken (clock-in size size f ns) f = rw (h, m, take-set-in size f ns true, full, over) in
-      here ∙ ap₂ taken (sym stopped) full-place
-
--- a use
+-- a mark set
 pub used-in : (size filled hand f : ℕ) (ms : List Bool) → clock-in size filled hand (set ms f true) ≡ record { size = size; filled = filled; hand = hand; marks = set (take size ms) f true }
 used-in size filled hand f ms = rw (take-set-in size f ms true)

@@ -44,7 +44,7 @@ module _ {Setting State : Type 0} {r : Rules Setting State} {valid : State → T
         let full : length (order (m .policy)) ≡ r .frames (m .policy) = omega (arith, o .within (m .policy) ok) in
         let turn = o .full-order (m .policy) ok full (omega arith) in
         let f = r .place (m .policy) in
-        let inside : f < length (m .keys) = omega (arith, o .bounded (m .policy) ok f (member-first f _ _ (turn .1))) in
+        let inside : f < length (m .keys) = omega (arith, o .bounded (m .policy) ok f (member-first f (order (m .policy)) (turn .0) (turn .1))) in
         rw (turn .1, turn .2, put-over (m .keys) f x inside) (swaps inside (omega arith))
 
     step : 1 ≤ k → (x : ℕ) → Stepping x

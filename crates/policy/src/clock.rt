@@ -5,6 +5,7 @@ use dial::Dial;
 
 mod calls;
 mod dial;
+mod steps;
 
 pub use calls::ClockPolicy;
 

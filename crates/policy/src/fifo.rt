@@ -3,6 +3,7 @@ ghost use mathlib.Core.Path.{_≡_};
 ghost use Prim.Native.Nat.{_≤_, _<_};
 
 mod calls;
+mod order;
 
 pub use calls::FifoPolicy;
 
@@ -13,6 +14,7 @@ pub struct Fifo {
     filled: usize,
     hand: usize,
     ghost some: { 1 ≤ size },
+    ghost most: { size ≤ 64 },
     ghost fits: { filled ≤ size },
     ghost within: { hand < size },
     ghost waits: { filled < size → hand ≡ 0 },

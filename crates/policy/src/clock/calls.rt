@@ -1,4 +1,4 @@
-// CLOCK's calls.
+// CLOCK as a policy.
 ghost use Rattle.policy.specs.Clock.{ClockState, clock-rules, clock-state};
 use super::Clock;
 use super::dial::Dial;
@@ -16,26 +16,17 @@ pub impl Policy for Clock as ClockPolicy {
     ghost model = { clock-state };
 
     fn new(_setting: (), geometry: &Geometry) -> Clock {
+        let size = geometry.frames();
         Clock {
-            size: geometry.frames(),
+            size,
             filled: 0,
-            dial: Dial {
-                hand: 0,
-                marks: [false; 64],
-            },
+            dial: Dial::new(size),
         }
     }
 
     fn place(&mut self) -> usize {
-        if self.filled < self.size {
-            let frame = self.filled;
-            self.filled = frame + 1;
-            self.dial.take(self.size, frame);
-            return frame;
-        }
-        self.dial.sweep(self.size);
-        let frame = self.dial.hand;
-        self.dial.take(self.size, frame);
+        let frame = self.choose();
+        self.take(frame);
         frame
     }
 
@@ -43,7 +34,7 @@ pub impl Policy for Clock as ClockPolicy {
         if frame >= self.filled {
             return Err(Refusal::FrameNotFilled);
         }
-        self.dial.marks[frame] = true;
+        self.mark(frame);
         Ok(())
     }
 }

@@ -1,8 +1,7 @@
-// FIFO's calls.
+// FIFO as a policy.
 ghost use Rattle.policy.specs.Queue.{Queue};
 ghost use Rattle.policy.specs.Fifo.{fifo-rules, fifo-queue};
 use super::Fifo;
-use crate::circle::next_frame;
 use crate::policy::Policy;
 use base::Geometry;
 use base::Refusal;
@@ -25,18 +24,16 @@ pub impl Policy for Fifo as FifoPolicy {
     }
 
     fn place(&mut self) -> usize {
-        if self.filled < self.size {
-            let frame = self.filled;
-            self.filled = frame + 1;
-            return frame;
+        if self.filled() < self.size {
+            return self.fill_next();
         }
-        let frame = self.hand;
-        self.hand = next_frame(self.size, frame);
-        frame
+        let earliest = self.earliest();
+        self.move_to_back(earliest);
+        earliest
     }
 
     fn use_frame(&mut self, frame: usize) -> Result<(), Refusal> {
-        if frame >= self.filled {
+        if frame >= self.filled() {
             return Err(Refusal::FrameNotFilled);
         }
         Ok(())

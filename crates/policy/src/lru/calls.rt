@@ -27,9 +27,9 @@ pub impl Policy for Lru as LruPolicy {
         if self.filled < self.size {
             return self.fill_next();
         }
-        let frame = self.earliest();
-        self.move_to_back(frame);
-        frame
+        let earliest = self.earliest();
+        self.move_to_back(earliest);
+        earliest
     }
 
     fn use_frame(&mut self, frame: usize) -> Result<(), Refusal> {

@@ -1,8 +1,8 @@
 // How the hand moves.
 ghost use mathlib.Core.Path.{_≡_};
-ghost use mathlib.Core.Bool.{true};
+ghost use mathlib.Core.Bool.{true, false};
 ghost use Prim.Native.Nat.{_≤_, _<_};
-ghost use lib.ListN.{set};
+ghost use lib.ListN.{set, take, replicate};
 ghost use Rattle.policy.specs.Circle.{onward};
 ghost use Rattle.policy.specs.Clock.{sweep};
 ghost use Rattle.policy.specs.Dial.{full-clock};
@@ -10,6 +10,18 @@ use super::Dial;
 use crate::circle::next_frame;
 
 impl Dial {
+    // The hand at frame 0, and all marks clear.
+    pub fn new(size: usize) -> Dial
+        requires { ⌜ size ≤ 64 ⌝ }
+        ensures hand { λ r. ⌜ r .hand ≡ 0 ⌝ }
+        ensures marks { λ r. ⌜ take size (r .marks) ≡ replicate size false ⌝ }
+    {
+        Dial {
+            hand: 0,
+            marks: [false; 64],
+        }
+    }
+
     // Clears marks and moves the hand on, until the mark under it is clear.
     pub fn sweep(&mut self, size: usize)
         requires most { ⌜ size ≤ 64 ⌝ }
