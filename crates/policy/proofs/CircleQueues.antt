@@ -1,10 +1,10 @@
 -- FIFO's hand goes through the queue. Assumes nothing.
-use mathlib.Core.Path.{_≡_, refl, sym, ap, ap₂, _∙_}
+use mathlib.Core.Path.{_≡_, sym, ap, _∙_}
 use mathlib.Core.List.{List, [], _∷_, _++_}
 use mathlib.Core.Logic.{inl, inr}
 use Prim.Native.Nat.{ℕ, _+_, _-_, _≤_, _<_}
 use native.Mathlib.Omega.{arith}
-use lib.ListN.{length, getD}
+use lib.ListN.{length}
 use Rattle.std.proofs.shelf.Lists.{append-nil}
 use Rattle.std.proofs.shelf.Tests.{cases-lt, lt-ltb, le-ltb}
 use Rattle.policy.specs.Keys.{without}
@@ -43,8 +43,8 @@ module _ (size n : ℕ) where
   pub full-place : (h : ℕ) → h < n → size ≤ n → h ≡ queue-place (queue-at size n h)
   full-place h low l = rw (length-circle n h (omega arith), le-ltb n size l, circle-here n h low)
 
-  pub full-placed : (h f next : ℕ) → h < n → n ≡ size → f ≡ h → next ≡ onward size f → queue-at size n next ≡ to-back (queue-at size n h) f
-  full-placed h f next low full front e =
-      let moved : circle n next ≡ without h (circle n h) ++ (h ∷ []) =
-      ap (circle n) (e ∙ ap₂ onward (sym full) front) ∙ circle-next n h low ∙ sym (back-first h (behind n h)) ∙ ap (λ o. without h o ++ (h ∷ [])) (sym (circle-here n h low)) in
-      ap (λ (o : List ℕ). record { size = size; order = o }) moved ∙ ap (to-back (queue-at size n h)) (sym front)
+  pub full-placed : (h next : ℕ) → h < n → n ≡ size → next ≡ onward size h → queue-at size n next ≡ to-back (queue-at size n h) h
+  full-placed h next low full e =
+      let turned : circle n next ≡ without h (circle n h) ++ (h ∷ []) =
+      ap (circle n) (e ∙ ap (λ k. onward k h) (sym full)) ∙ circle-next n h low ∙ sym (back-first h (behind n h)) ∙ ap (λ o. without h o ++ (h ∷ [])) (sym (circle-here n h low)) in
+      ap (λ (o : List ℕ). record { size = size; order = o }) turned

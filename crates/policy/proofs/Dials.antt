@@ -1,7 +1,7 @@
 -- The sweep as the code makes it, over the marks in front of an array. Assumes nothing.
-use mathlib.Core.Path.{_≡_, refl, sym, ap, _∙_}
+use mathlib.Core.Path.{_≡_, refl, sym, _∙_}
 use mathlib.Core.Bool.{Bool, true, false, cond}
-use mathlib.Core.List.{List, [], _∷_}
+use mathlib.Core.List.{List, []}
 use Prim.Native.Nat.{ℕ, zero, suc, _+_, _<_, _≤_}
 use native.Mathlib.Omega.{arith}
 use lib.Dec.{ltb}
@@ -11,6 +11,7 @@ use Rattle.std.proofs.shelf.Sums.{sumBy-set, countBy-le-length}
 use Rattle.std.proofs.shelf.Lists.{length-take-le, getD-take}
 use Rattle.policy.specs.Circle.{onward}
 use Rattle.policy.specs.Clock.{ClockState, cleared, sweep, taken}
+use Rattle.policy.proofs.Arrays.{take-set-in}
 
 -- how many marks are set
 abbrev pub marked : List Bool → ℕ
@@ -19,13 +20,6 @@ marked ms = countBy (λ m. m) ms
 -- a mark that is set, and then cleared
 pub marked-cleared : (ms : List Bool) (i : ℕ) → i < length ms → getD ms i false ≡ true → marked (set ms i false) + 1 ≡ marked ms
 marked-cleared ms i l e = let h = sumBy-set (λ (m : Bool). cond m 1 0) ms i false false l in let one : cond {A = ℕ} (getD ms i false) 1 0 ≡ 1 = rw e in omega arith
-
--- the front of an array in which one place is written
-pub take-set-in : {A : Type 0} (n i : ℕ) (xs : List A) (y : A) → take n (set xs i y) ≡ set (take n xs) i y
-take-set-in zero i xs y = refl
-take-set-in (suc n) i [] y = refl
-take-set-in (suc n) zero (x ∷ xs) y = refl
-take-set-in (suc n) (suc i) (x ∷ xs) y = ap (λ zs. x ∷ zs) (take-set-in n i xs y)
 
 -- a sweep has a step to make as long as the mark under the hand is set
 pub sweep-goes : (n : ℕ) (s : ClockState) → s .hand < length (s .marks) → getD (s .marks) (s .hand) false ≡ true → marked (s .marks) ≤ n →

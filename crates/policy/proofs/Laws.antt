@@ -1,6 +1,6 @@
 -- The law of policies that evict by an order. Assumes nothing.
-use mathlib.Core.Path.{_≡_, sym, ap, _∙_}
-use mathlib.Core.Bool.{true, false}
+use mathlib.Core.Path.{_≡_, sym, _∙_}
+use mathlib.Core.Bool.{true}
 use mathlib.Core.List.{List, [], _∷_}
 use mathlib.Core.Logic.{⊎-elim}
 use Prim.Native.Nat.{ℕ, _+_, _≤_, _<_}
@@ -9,7 +9,7 @@ use lib.ListN.{length}
 use Rattle.std.proofs.shelf.Lists.{drop-all}
 use Rattle.std.proofs.shelf.Tests.{cases-bool, cases-lt}
 use Rattle.policy.specs.Keys.{member, place-in, distinct}
-use Rattle.policy.specs.Machine.{Rules, Machine, put, start, hit, fetch, touch, touched, fetches}
+use Rattle.policy.specs.Machine.{Rules, Machine, put, start, hit, fetch, touched, fetches}
 use Rattle.policy.specs.Law.{Conservative}
 use Rattle.policy.specs.Shape.{Running}
 use Rattle.policy.specs.Order.{OrderedBy}
@@ -45,7 +45,7 @@ module _ {Setting State : Type 0} {r : Rules Setting State} {valid : State → T
         let turn = o .full-order (m .policy) ok full (omega arith) in
         let f = r .place (m .policy) in
         let inside : f < length (m .keys) = omega (arith, o .bounded (m .policy) ok f (member-first f (order (m .policy)) (turn .0) (turn .1))) in
-        rw (turn .1, turn .2, put-over (m .keys) f x inside) (swaps inside (omega arith))
+        rw (turn .1, turn .2, put-over (m .keys) f x inside) (swaps {rest = turn .0} inside (omega arith))
 
     step : 1 ≤ k → (x : ℕ) → Stepping x
     step some x = ⊎-elim (step-room x) (λ l. step-full x l some) (cases-lt (length (m .keys)) k)

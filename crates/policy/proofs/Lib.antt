@@ -1,3 +1,4 @@
+pub mod Arrays
 pub mod Members
 pub mod Steps
 pub mod Shapes

@@ -1,16 +1,16 @@
 -- The frame machine by rules that have the shape of a policy. Assumes nothing.
-use mathlib.Core.Path.{_≡_, refl, sym, ap, _∙_}
+use mathlib.Core.Path.{_≡_, refl, _∙_}
 use mathlib.Core.Bool.{true, false, cond}
 use mathlib.Core.List.{List, [], _∷_, _++_}
 use mathlib.Core.Logic.{inl, inr}
-use Prim.Native.Nat.{ℕ, suc, _+_, _≤_, _<_}
+use Prim.Native.Nat.{ℕ, _+_, _≤_, _<_}
 use native.Mathlib.Omega.{arith}
 use lib.ListN.{length, set}
 use Rattle.std.proofs.shelf.Lists.{length-push, length-set}
 use Rattle.std.proofs.shelf.Tests.{cases-lt, cond-both, lt-ltb, le-ltb}
 use Rattle.policy.specs.Keys.{member, place-in, Apart}
 use Rattle.policy.specs.Machine.{Rules, Machine, put, start, hit, fetch, touch, touched, fetches}
-use Rattle.policy.specs.Shape.{Reached, first, placed, used, Shape, Running}
+use Rattle.policy.specs.Shape.{first, placed, used, Shape, Running}
 use Rattle.policy.proofs.Members.{place-within, apart-push, apart-set}
 
 -- a key put into the next frame, and into a filled one

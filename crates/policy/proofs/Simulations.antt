@@ -1,10 +1,9 @@
 -- Rules that behave as others do, state by state. Assumes nothing.
-use mathlib.Core.Path.{_≡_, sym, ap, subst, _∙_}
+use mathlib.Core.Path.{_≡_, sym, ap, _∙_}
 use mathlib.Core.List.{List, _∷_, _++_, []}
-use Prim.Native.Nat.{ℕ, _<_}
-use lib.ListN.{length}
+use Prim.Native.Nat.{ℕ}
 use Rattle.policy.specs.Machine.{Rules}
-use Rattle.policy.specs.Order.{Later, OrderedBy}
+use Rattle.policy.specs.Order.{OrderedBy}
 
 -- setting and state of r, read as those of r′, give the same answers and states
 pub record Simulates {Setting State Setting′ State′ : Type 0} (r : Rules Setting State) (r′ : Rules Setting′ State′) (setting : Setting → Setting′) (state : State → State′) : Type 0 where

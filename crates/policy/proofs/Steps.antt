@@ -12,7 +12,7 @@ use Rattle.std.proofs.shelf.Elements.{all-push, all-drop, all-weaker, all-from-
 use Rattle.std.proofs.shelf.Tests.{cases-eq}
 use Rattle.policy.specs.Keys.{member, distinct, Apart}
 use Rattle.policy.specs.Order.{Later}
-use Rattle.policy.proofs.Members.{all-member, apart-push, apart-set, apart-few}
+use Rattle.policy.proofs.Members.{all-member, apart-few}
 
 module _ (P : ℕ → Type 0) (f : ℕ) (p : P f) where
   -- f put in somewhere
@@ -46,15 +46,6 @@ later-length f xs ys l = rw (l .3, l .4) (simp length-append (omega arith))
 pub data Step (k x : ℕ) : List ℕ → List ℕ → List ℕ → List ℕ → Type 0 where
   fills : {keys order : List ℕ} → Step k x keys order (keys ++ (x ∷ [])) (order ++ (length keys ∷ []))
   swaps : {keys rest : List ℕ} {f : ℕ} → f < length keys → length keys ≡ k → Step k x keys (f ∷ rest) (set keys f x) (rest ++ (f ∷ []))
-
--- a fetch keeps one key to a frame, and the keys apart
-pub step-length : {k x : ℕ} {keys order keys′ order′ : List ℕ} → Step k x keys order keys′ order′ → length keys ≡ length order → length keys′ ≡ length order′
-step-length fills e = simp length-push (omega arith)
-step-length (swaps l f) e = simp (length-set, length-push) (omega arith)
-
-pub step-apart : {k x : ℕ} {keys order keys′ order′ : List ℕ} → Step k x keys order keys′ order′ → Apart keys → member x keys ≡ false → Apart keys′
-step-apart fills h e = apart-push _ _ h e
-step-apart (swaps l f) h e = apart-set _ _ _ h e
 
 -- frame f holds one of the keys of whole
 abbrev pub Holds : List ℕ → List ℕ → ℕ → Type 0

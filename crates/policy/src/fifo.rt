@@ -17,5 +17,6 @@ pub struct Fifo {
     ghost most: { size ≤ 64 },
     ghost fits: { filled ≤ size },
     ghost within: { hand < size },
+    // the hand leaves frame 0 only once all frames are filled
     ghost waits: { filled < size → hand ≡ 0 },
 }

@@ -25,11 +25,10 @@ pub impl Policy for Fifo as FifoPolicy {
 
     fn place(&mut self) -> usize {
         if self.filled() < self.size {
-            return self.fill_next();
+            self.fill_next()
+        } else {
+            self.take_earliest()
         }
-        let earliest = self.earliest();
-        self.move_to_back(earliest);
-        earliest
     }
 
     fn use_frame(&mut self, frame: usize) -> Result<(), Refusal> {

@@ -27,21 +27,14 @@ impl Fifo {
         frame
     }
 
-    // The first of a full order.
-    pub(super) fn earliest(&self) -> usize
+    // Moves the first of a full order to its end.
+    pub(super) fn take_earliest(&mut self) -> usize
         requires { ⌜ now self .size ≤ now self .filled ⌝ }
         ensures value { λ r. ⌜ r ≡ queue-place (fifo-queue (now (self .entry))) ⌝ }
-        ensures hand { λ r. ⌜ r ≡ now (self .entry) .hand ⌝ }
+        ensures after { λ r. ⌜ fifo-queue (now (self .exit)) ≡ to-back (fifo-queue (now (self .entry))) r ⌝ }
     {
-        self.hand
-    }
-
-    // Moves the first of a full order to its end.
-    pub(super) fn move_to_back(&mut self, frame: usize)
-        requires full { ⌜ now self .size ≤ now self .filled ⌝ }
-        requires first { ⌜ frame ≡ now self .hand ⌝ }
-        ensures { λ _. ⌜ fifo-queue (now (self .exit)) ≡ to-back (fifo-queue (now (self .entry))) frame ⌝ }
-    {
+        let frame = self.hand;
         self.hand = next_frame(self.size, frame);
+        frame
     }
 }

@@ -9,7 +9,7 @@ ghost use Rattle.policy.specs.Queue.{to-back, queue-place};
 ghost use Rattle.policy.specs.Lru.{lru-queue};
 use super::Lru;
 
-// The walk starts at the end, so that a frame used a short time ago costs few steps.
+// Moves a frame to the end of an order. The walk starts there, so that a frame used a short time ago costs few steps.
 fn shift_to_back(order: &mut [u8; 64], filled: usize, frame: u8)
     requires fits { ⌜ filled ≤ 64 ⌝ }
     requires once { ⌜ distinct (take filled (now order)) ≡ filled ⌝ }

@@ -1,6 +1,5 @@
 use mathlib.Core.Path.{_≡_, _∙_}
 use mathlib.Core.Bool.{false}
-use Prim.Native.Nat.{_<_}
 use native.Mathlib.Omega.{arith}
 use borrow.Author.Needs.{needs}
 use lib.ListN.{length}
