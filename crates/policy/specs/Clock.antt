@@ -7,7 +7,9 @@ use lib.ListN.{getD, set, take, replicate}
 use Rattle.policy.specs.Circle.{onward}
 use Rattle.policy.specs.Machine.{Rules}
 use Rattle.policy.specs.declared.clock.Clock.{Clock}
+use Rattle.policy.specs.declared.clock.dial.Dial.{Dial}
 
+-- How many frames there are and how many are filled, where the hand stands, and the mark of each frame.
 pub record ClockState : Type 0 where
   pub size : ℕ
   pub filled : ℕ
@@ -54,3 +56,7 @@ clock-rules = record {
 -- the state that the code keeps
 abbrev pub clock-state : Clock → ClockState
 clock-state c = record { size = c .size; filled = c .filled; hand = c .dial .hand; marks = take (c .size) (c .dial .marks) }
+
+-- a clock of size frames, all filled, with this dial
+abbrev pub full-clock : ℕ → Dial → ClockState
+full-clock size d = record { size = size; filled = size; hand = d .hand; marks = take size (d .marks) }

@@ -7,6 +7,7 @@ use lib.ListN.{getD, set, replicate}
 use Rattle.policy.specs.Circle.{onward}
 use Rattle.policy.specs.Machine.{Rules}
 
+-- The same as for CLOCK, with the highest count and the count of each frame in place of the marks.
 pub record CountState : Type 0 where
   pub size : ℕ
   pub filled : ℕ

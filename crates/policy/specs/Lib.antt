@@ -9,5 +9,4 @@ pub mod Circle
 pub mod Lru
 pub mod Fifo
 pub mod Clock
-pub mod Dial
 pub mod Counting

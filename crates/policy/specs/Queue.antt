@@ -7,6 +7,7 @@ use lib.ListN.{length, getD}
 use Rattle.policy.specs.Keys.{without}
 use Rattle.policy.specs.Machine.{Rules}
 
+-- How many frames there are, and the filled ones in their order.
 pub record Queue : Type 0 where
   pub size : ℕ
   pub order : List ℕ

@@ -4,8 +4,7 @@ ghost use mathlib.Core.Bool.{true, false};
 ghost use Prim.Native.Nat.{_≤_, _<_};
 ghost use lib.ListN.{set, take, replicate};
 ghost use Rattle.policy.specs.Circle.{onward};
-ghost use Rattle.policy.specs.Clock.{sweep};
-ghost use Rattle.policy.specs.Dial.{full-clock};
+ghost use Rattle.policy.specs.Clock.{sweep, full-clock};
 use super::Dial;
 use crate::circle::next_frame;
 

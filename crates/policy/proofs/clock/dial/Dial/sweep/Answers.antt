@@ -4,8 +4,7 @@ use native.Mathlib.Omega.{arith}
 use borrow.Author.Needs.{needs}
 use lib.ListN.{length}
 use Rattle.std.proofs.shelf.Lists.{length-set}
-use Rattle.policy.specs.Clock.{sweep}
-use Rattle.policy.specs.Dial.{full-clock}
+use Rattle.policy.specs.Clock.{sweep, full-clock}
 use Rattle.policy.proofs.Sweeps.{onward-within}
 use Rattle.policy.proofs.Dials.{marked-cleared, left-first, left-goes, left-stops}
 use Rattle.policy.proofs.clock.dial.Dial.sweep.Needs as need

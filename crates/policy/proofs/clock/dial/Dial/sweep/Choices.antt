@@ -1,8 +1,7 @@
 use mathlib.Core.Path.{_≡_}
 use Prim.Native.Nat.{_<_}
 use lib.ListN.{length}
-use Rattle.policy.specs.Clock.{sweep}
-use Rattle.policy.specs.Dial.{full-clock}
+use Rattle.policy.specs.Clock.{sweep, full-clock}
 use Rattle.policy.proofs.Dials.{marked, Left}
 use Rattle.policy.proofs.clock.dial.Dial.sweep.Given as given
 
