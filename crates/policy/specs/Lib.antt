@@ -1,0 +1,12 @@
+pub mod Keys
+pub mod Machine
+pub mod Law
+pub mod Shape
+pub mod Calls
+pub mod Order
+pub mod Queue
+pub mod Circle
+pub mod Lru
+pub mod Fifo
+pub mod Clock
+pub mod Counting
