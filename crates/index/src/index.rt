@@ -1,0 +1,11 @@
+// The slots, and how many of them are taken.
+use crate::slot::Slot;
+
+mod calls;
+mod probing;
+
+#[derive(Drop)]
+pub struct Index<'a, K> {
+    slots: &'a mut [Slot<K>],
+    taken: usize,
+}
