@@ -2,8 +2,8 @@
 use mathlib.Core.Path.{_≡_}
 use mathlib.Core.Bool.{Bool, true, false, cond}
 use mathlib.Core.List.{List, [], _∷_}
-use Prim.Native.Nat.{ℕ, _+_, _-_, _%_, _≤_, _<_}
-use lib.Dec.{eqb, leb}
+use Prim.Native.Nat.{ℕ, _%_, _≤_, _<_}
+use lib.Dec.{eqb}
 use lib.ListN.{length, getD}
 use Rattle.std.specs.shelf.Lists.{countBy}
 use Rattle.std.specs.declared.option.Option.{Option}
@@ -12,6 +12,7 @@ use Rattle.index.specs.declared.slot.Slot.{Slot}
 use Rattle.index.specs.declared.slot.Slot.the-variants.{Free, Taken}
 use Rattle.index.specs.declared.index.Index.{Index}
 use Rattle.index.specs.Maps.{Map}
+use Rattle.index.specs.Places.{steps}
 
 -- the slots of an index
 abbrev pub slots-of : {K : Type 0} → Index K → List (Slot K)
@@ -41,16 +42,20 @@ map-of code index = record {
   places = length (slots-of index);
 }
 
--- how many steps upward a place is from another, where the first place follows the last
-abbrev pub steps : ℕ → ℕ → ℕ → ℕ
-steps places from to = cond (leb from to) (to - from) (to + places - from)
+-- the place from which a key is looked for
+abbrev pub home : {K : Type 0} → (K → ℕ) → List (Slot K) → K → ℕ
+home spread slots key = spread key % length slots
 
--- each key is reached from its spread: every slot on the way to its own is taken
+-- whether a place comes before another on the way from a key's home
+abbrev pub Before : {K : Type 0} → (K → ℕ) → List (Slot K) → K → ℕ → ℕ → Type 0
+Before spread slots key p q =
+    steps (length slots) (home spread slots key) p < steps (length slots) (home spread slots key) q
+
+-- each key is reached from its spread: every slot on the way from its home to its own is taken
 abbrev pub Reached : {K : Type 0} → (K → ℕ) → List (Slot K) → Type 0
 Reached {K} spread slots =
     (place : ℕ) (key : K) (number : ℕ) → getD slots place Free ≡ Taken key number →
-    (q : ℕ) → q < length slots → steps (length slots) (spread key % length slots) q < steps (length slots) (spread key % length slots) place →
-    is-taken (getD slots q Free) ≡ true
+    (p : ℕ) → p < length slots → Before spread slots key p place → is-taken (getD slots p Free) ≡ true
 
 -- what every call of an index needs and keeps
 pub record Sound {K : Type 0} (code spread : K → ℕ) (index : Index K) : Type 0 where

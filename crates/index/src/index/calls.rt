@@ -5,9 +5,12 @@ ghost use Rattle.std.specs.declared.option.Option.the-variants.{None};
 ghost use Rattle.std.specs.declared.result.Result.the-variants.{Err};
 ghost use Rattle.base.specs.declared.refusal.Refusal.the-variants.{IndexFull};
 ghost use Rattle.index.specs.Maps.{Map, Finite, empty, put-answer, put-map, remove-map};
+ghost use Rattle.index.specs.Probes.{Probed};
 ghost use Rattle.index.specs.Slots.{map-of, slots-of, Sound};
 use super::Index;
 use super::probing::Probe;
+use super::probing::look_up;
+use super::probing::vacate;
 use crate::slot::Slot;
 use base::Key;
 use base::Refusal;
@@ -44,6 +47,14 @@ impl<'a, K: Key> Index<'a, K> {
         }
     }
 
+    // Where the key stands, or would stand.
+    fn probe(&self, key: &K) -> Probe
+        requires { ⌜ Sound (K·Key .code) (K·Key .spread) (now self) ⌝ }
+        ensures { λ r. ⌜ Probed (K·Key .code) (K·Key .spread) (slots-of (now (self .entry))) (now (key .entry)) r ⌝ }
+    {
+        look_up(self.slots, key)
+    }
+
     // Stores the number with the key, in place of the one before if there is one.
     pub fn put(&mut self, key: K, number: u32) -> Result<(), Refusal>
         requires { ⌜ Sound (K·Key .code) (K·Key .spread) (now self) ⌝ }
@@ -76,7 +87,7 @@ impl<'a, K: Key> Index<'a, K> {
     {
         match self.probe(key) {
             Probe::Found { place, number } => {
-                self.vacate(place);
+                vacate(self.slots, place);
                 self.taken -= 1;
                 Some(number)
             }

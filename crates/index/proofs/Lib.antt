@@ -1,0 +1,5 @@
+pub mod Places
+pub mod Counts
+pub mod Changes
+pub mod Finites
+pub mod Searches
