@@ -11,7 +11,7 @@ use Rattle.std.specs.shelf.Lists.{sumBy, countBy}
 use Rattle.std.specs.shelf.Maps.{update}
 use Rattle.std.specs.declared.option.Option.{Option}
 use Rattle.std.specs.declared.option.Option.the-variants.{Some, None}
-use Rattle.std.proofs.shelf.Lists.{getD-past}
+use Rattle.std.proofs.shelf.Lists.{getD-past, getD-read}
 use Rattle.std.proofs.shelf.Sums.{sumBy-set}
 use Rattle.std.proofs.shelf.Tests.{cases-lt}
 use Rattle.std.proofs.shelf.Ways.{tells}
@@ -27,6 +27,10 @@ within-from-taken xs p k n e =
       | inl h ↦ h
       | inr h ↦ let d = getD-past xs p Free h in let z : _≡_ {A = ℕ} 0 1 = cc in omega arith
     ]
+
+-- what was read at p stands there, at the default Free
+pub read-is : {K : Type 0} (xs : List (Slot K)) (p : ℕ) (x v : Slot K) → p < length xs → x ≡ getD xs p x → x ≡ v → getD xs p Free ≡ v
+read-is xs p x v within read is = sym (getD-read xs p x within read Free) ∙ is
 
 -- ys has the slots of xs, but for the one at p, which held k with n
 module _ {K : Type 0} (code : K → ℕ) (xs ys : List (Slot K)) (p : ℕ) (k : K) (n : ℕ)

@@ -29,3 +29,8 @@ module _ (n : ℕ) where
   -- a place on the way divides it
   pub steps-between : (a b c : ℕ) → a < n → b < n → c < n → steps n a b ≤ steps n a c → steps n b c ≡ steps n a c - steps n a b
   steps-between a b c p q r h = grind (arith, tells)
+
+  -- what lies between b and d lies before d on the way that leads from a across b
+  pub steps-before : (a b c d : ℕ) → a < n → b < n → c < n → d < n → steps n a b < steps n a d → steps n b c < steps n b d → steps n a c < steps n a d
+  steps-before a b c d p q r s h k =
+      let e = steps-between a b d p q s (omega arith) in let m = steps-below a d p s in grind (arith, tells)

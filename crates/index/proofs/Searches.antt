@@ -8,7 +8,6 @@ use native.Mathlib.Omega.{arith}
 use lib.Dec.{eqb}
 use lib.ListN.{length, getD}
 use Rattle.std.specs.shelf.Lists.{countBy}
-use Rattle.std.proofs.shelf.Lists.{getD-read}
 use Rattle.std.proofs.shelf.Sums.{sumBy-cons}
 use Rattle.std.proofs.shelf.Tests.{both-ways, cases-order, ne-eqb}
 use Rattle.index.specs.declared.slot.Slot.{Slot}
@@ -16,6 +15,7 @@ use Rattle.index.specs.declared.slot.Slot.the-variants.{Free, Taken}
 use Rattle.index.specs.Places.{follower, steps}
 use Rattle.index.specs.Slots.{is-taken, holds, home, Before, Reached}
 use Rattle.index.specs.Probes.{Absent, Open}
+use Rattle.index.proofs.Changes.{read-is}
 use Rattle.index.proofs.Places.{steps-none, steps-same, steps-below, steps-follower, steps-round, follower-below}
 
 -- a test that passes no element, and one that passes each
@@ -49,7 +49,7 @@ module _ {K : Type 0} (code spread : K → ℕ) (xs : List (Slot K)) (key : K) w
   -- a slot x that was read at p, whose key has another code: a is the code read there, and b the key's
   pub other-from-read : (p n : ℕ) (held : K) (x : Slot K) (a b : ℕ) → p < length xs → x ≡ getD xs p x → x ≡ Taken held n → a ≡ code held → b ≡ code key → (a ≡ b → ⊥) → Other p
   other-from-read p n held x a b within read is first second ne =
-      let e : getD xs p Free ≡ Taken held n = sym (getD-read xs p x within read Free) ∙ is in
+      let e = read-is xs p x (Taken held n) within read is in
       record { taken = rw e; other = rw e (ne-eqb (code key) (code held) (λ same. ne (first ∙ sym same ∙ sym second))) }
 
   pub passed-none : 0 < length xs → Passed (home spread xs key)

@@ -1,11 +1,6 @@
-use mathlib.Core.Path.{_≡_, refl, sym, _∙_}
-use Prim.Native.Nat.{_<_}
 use native.Mathlib.Omega.{arith}
-use lib.ListN.{length, getD}
-use borrow.Author.Needs.{needs}
-use Rattle.std.proofs.shelf.Lists.{getD-read}
-use Rattle.index.specs.declared.slot.Slot.the-variants.{Free, Taken}
-use Rattle.index.proofs.Searches.{passed-none, passed-more, passed-all, other-from-read, full-from-others, open-from-free}
+use Rattle.index.proofs.Changes.{read-is}
+use Rattle.index.proofs.Searches.{passed-more, passed-all, other-from-read, full-from-others, open-from-free}
 use Rattle.index.proofs.index.probing.look_up.Needs as need
 
 pub returns-then-places-eq0 : need.returns-then-places-eq0
@@ -14,10 +9,8 @@ returns-then-places-eq0 g c =
 
 pub returns-in-Free : need.returns-in-Free
 returns-in-Free g c =
-    let xs = c .args .slots .now in
-    let within = c .loop-held .inv .within in
-    open-from-free _ _ xs _ (g .K·Key·met .faithful) (c .pre) (c .loop-held .place) (c .loop-held .inv)
-    (sym (getD-read xs (c .loop-held .place) _ within (c .index-slots-place .is) Free) ∙ c .in-Free .is)
+    open-from-free _ _ _ _ (g .K·Key·met .faithful) (c .pre) (c .loop-held .place) (c .loop-held .inv)
+    (read-is _ _ _ _ (c .loop-held .inv .within) (c .index-slots-place .is) (c .in-Free .is))
 
 pub returns-then-place-start : need.returns-then-place-start
 returns-then-place-start g c =
