@@ -44,7 +44,7 @@ module _ {K : Type 0} (spread : K → ℕ) (n : ℕ) where
       let kept : (p : ℕ) → (p ≡ place → ⊥) → getD (set xs place Free) p Free ≡ getD xs p Free = λ p off. getD-set-other xs place p Free Free off in
       let reaches = rw long at reached in
       let apart : (q : ℕ) (k : K) (m : ℕ) → getD (set xs place Free) q Free ≡ Taken k m → q ≡ place → ⊥ =
-        λ q k m e at. not-free (getD (set xs place Free) q Free) k m (rw at free) e in
+      λ q k m e at. not-free (getD (set xs place Free) q Free) k m (rw at free) e in
       record {
         long = length-set xs place Free ∙ long;
         inside = inside;
@@ -52,9 +52,9 @@ module _ {K : Type 0} (spread : K → ℕ) (n : ℕ) where
         free = free;
         across = λ q k m e p l off b. rw (kept p off) (reaches q k m (sym (kept q (apart q k m e)) ∙ e) p l b);
         clear = λ q k m e near b.
-          let none = steps-none n place in
-          let in-q : q < n = rw (sym (length-set xs place Free ∙ long)) (within-from-taken (set xs place Free) q k m e) in
-          apart q k m e (steps-same n place q place inside in-q inside (omega arith));
+            let none = steps-none n place in
+            let in-q : q < n = rw (sym (length-set xs place Free ∙ long)) (within-from-taken (set xs place Free) q k m e) in
+            apart q k m e (steps-same n place q place inside in-q inside (omega arith));
       }
 
   module _ (xs : List (Slot K)) (hole last : ℕ) (gap : Gap xs hole last) where
@@ -63,9 +63,9 @@ module _ {K : Type 0} (spread : K → ℕ) (n : ℕ) where
 
     closed : ((q : ℕ) (k : K) (m : ℕ) → getD xs q Free ≡ Taken k m → Ahead k hole q → ⊥) → Reached spread xs
     closed none = rw (gap .long) (λ q k m e p l b. elim (cases-eq p hole) [
-        | inl same ↦ absurd (none q k m e (rw same at b))
-        | inr other ↦ gap .across q k m e p l other b
-      ])
+      | inl same ↦ absurd (none q k m e (rw same at b))
+      | inr other ↦ gap .across q k m e p l other b
+    ])
 
     -- the whole round has been looked at
     pub closed-round : follower n last ≡ hole → Reached spread xs
@@ -94,8 +94,8 @@ module _ {K : Type 0} (spread : K → ℕ) (n : ℕ) where
               | inl past ↦ both-ways (is-taken (getD xs next Free)) (rw free)
                   (gap .across q k m held next in-next other (steps-before n home hole next q in-home (gap .inside) in-next in-q b past))
               | inr here ↦
-                let same : steps n hole q ≡ steps n hole next = omega arith in
-                not-free (getD xs q Free) k m (rw (steps-same n hole q next (gap .inside) in-q in-next same) free) held
+                  let same : steps n hole q ≡ steps n hole next = omega arith in
+                  not-free (getD xs q Free) k m (rw (steps-same n hole q next (gap .inside) in-q in-next same) free) held
             ]
           ])
 
@@ -109,15 +109,15 @@ module _ {K : Type 0} (spread : K → ℕ) (n : ℕ) where
           free = gap .free;
           across = gap .across;
           clear = λ q k′ m′ e near b.
-            let more = step in
-            elim (cases-lt (steps n hole last) (steps n hole q)) [
-              | inr nearer ↦ gap .clear q k′ m′ e nearer b
-              | inl far ↦
-                let same : steps n hole q ≡ steps n hole next = omega arith in
-                let at = steps-same n hole q next (gap .inside) (below q k′ m′ e) in-next same in
-                let one : k′ ≡ k = cc in
-                off (rw (at, one) at b)
-            ];
+              let more = step in
+              elim (cases-lt (steps n hole last) (steps n hole q)) [
+                | inr nearer ↦ gap .clear q k′ m′ e nearer b
+                | inl far ↦
+                    let same : steps n hole q ≡ steps n hole next = omega arith in
+                    let at = steps-same n hole q next (gap .inside) (below q k′ m′ e) in-next same in
+                    let one : k′ ≡ k = cc in
+                    off (rw (at, one) at b)
+              ];
         }
 
         -- the next slot's key moves into the hole, and its slot is the new one
@@ -133,9 +133,9 @@ module _ {K : Type 0} (spread : K → ℕ) (n : ℕ) where
             | inl at ↦ rw (at, filled, held)
             | inr apart ↦ rw (rest p apart off) (elim (cases-eq q hole) [
               | inl home ↦
-                let one : k′ ≡ k = cc in
-                let b′ : Ahead k p hole = rw (home, one) at b in
-                gap .across next k m held p l apart (omega arith)
+                  let one : k′ ≡ k = cc in
+                  let b′ : Ahead k p hole = rw (home, one) at b in
+                  gap .across next k m held p l apart (omega arith)
               | inr far ↦ elim (cases-eq q next) [
                 | inl at ↦ absurd (not-free (getD ys q Free) k′ m′ (rw at (freed ∙ gap .free)) e)
                 | inr away ↦ gap .across q k′ m′ (sym (rest q far away) ∙ e) p l apart b
@@ -143,9 +143,9 @@ module _ {K : Type 0} (spread : K → ℕ) (n : ℕ) where
             ])
           ];
           clear = λ q k′ m′ e near b.
-            let none = steps-none n next in
-            let in-q : q < n = rw (sym (same-long ∙ gap .long)) (within-from-taken ys q k′ m′ e) in
-            let same : steps n next q ≡ steps n next next = omega arith in
-            let at = steps-same n next q next in-next in-q in-next same in
-            not-free (getD ys q Free) k′ m′ (rw at (freed ∙ gap .free)) e;
+              let none = steps-none n next in
+              let in-q : q < n = rw (sym (same-long ∙ gap .long)) (within-from-taken ys q k′ m′ e) in
+              let same : steps n next q ≡ steps n next next = omega arith in
+              let at = steps-same n next q next in-next in-q in-next same in
+              not-free (getD ys q Free) k′ m′ (rw at (freed ∙ gap .free)) e;
         }

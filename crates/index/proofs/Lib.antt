@@ -6,3 +6,5 @@ pub mod Searches
 pub mod Gaps
 pub mod Distances
 pub mod Turns
+pub mod Maps
+pub mod Updates

@@ -34,13 +34,13 @@ number-of code [] c = None
 number-of code (Free ∷ slots) c = number-of code slots c
 number-of code (Taken key number ∷ slots) c = cond (eqb c (code key)) (Some number) (number-of code slots c)
 
+-- the map that slots hold
+abbrev pub slots-map : {K : Type 0} → (K → ℕ) → List (Slot K) → Map
+slots-map code slots = record { at = number-of code slots; size = countBy is-taken slots; places = length slots }
+
 -- the map that an index holds
 abbrev pub map-of : {K : Type 0} → (K → ℕ) → Index K → Map
-map-of code index = record {
-  at = number-of code (slots-of index);
-  size = countBy is-taken (slots-of index);
-  places = length (slots-of index);
-}
+map-of code index = slots-map code (slots-of index)
 
 -- the place from which a key is looked for
 abbrev pub home : {K : Type 0} → (K → ℕ) → List (Slot K) → K → ℕ

@@ -16,5 +16,9 @@ pub fn steps(places: usize, from: usize, to: usize) -> usize
     requires { ⌜ from < places ⌝ ∗ ⌜ to < places ⌝ }
     ensures { λ r. ⌜ r ≡ distance places from to ⌝ }
 {
-    if from <= to { to - from } else { places - from + to }
+    if from <= to {
+        to - from
+    } else {
+        places - from + to
+    }
 }

@@ -33,23 +33,23 @@ pub loop-hole-less-then-steps : need.loop-hole-less-then-steps
 loop-hole-less-then-steps g c =
     turn-less (g .K·Key .spread) _
     (turned _ _ (c .loop-hole .inv .0) (c .after-next .ensures) (c .if-next-hole .left) (c .index-slots-next .is) (c .in-Taken .is)
-      (c .home-of-home .ensures) (c .steps .ensures) (c .steps-in-Taken .ensures))
+    (c .home-of-home .ensures) (c .steps .ensures) (c .steps-in-Taken .ensures))
     _ (c .if-steps .taken) (exchanged _ _ _ _ _ _ (c .swap .ensures .len) (c .swap .ensures .places))
 
 pub loop-hole-again-then-steps : need.loop-hole-again-then-steps
 loop-hole-again-then-steps g c = (
   turn-moves (g .K·Key .spread) _
-    (turned _ _ (c .loop-hole .inv .0) (c .after-next .ensures) (c .if-next-hole .left) (c .index-slots-next .is) (c .in-Taken .is)
+      (turned _ _ (c .loop-hole .inv .0) (c .after-next .ensures) (c .if-next-hole .left) (c .index-slots-next .is) (c .in-Taken .is)
       (c .home-of-home .ensures) (c .steps .ensures) (c .steps-in-Taken .ensures))
-    _ (c .if-steps .taken) (exchanged _ _ _ _ _ _ (c .swap .ensures .len) (c .swap .ensures .places)),
+      _ (c .if-steps .taken) (exchanged _ _ _ _ _ _ (c .swap .ensures .len) (c .swap .ensures .places)),
   λ f. sumBy-shuffled f _ _ (c .swap .ensures .shuffled) ∙ c .loop-hole .inv .1 f,
 )
 
 pub loop-hole-again : need.loop-hole-again
 loop-hole-again g c = (
   turn-stays (g .K·Key .spread) _
-    (turned _ _ (c .loop-hole .inv .0) (c .after-next .ensures) (c .if-next-hole .left) (c .index-slots-next .is) (c .in-Taken .is)
+      (turned _ _ (c .loop-hole .inv .0) (c .after-next .ensures) (c .if-next-hole .left) (c .index-slots-next .is) (c .in-Taken .is)
       (c .home-of-home .ensures) (c .steps .ensures) (c .steps-in-Taken .ensures))
-    (c .if-steps .left),
+      (c .if-steps .left),
   c .loop-hole .inv .1,
 )
