@@ -1,15 +1,14 @@
 -- What freeing and taking a slot does to the map that a list of slots holds.
-use mathlib.Core.Path.{_≡_, refl, sym, ap, _∙_}
-use mathlib.Core.Bool.{Bool, true, false, cond}
-use mathlib.Core.List.{List, [], _∷_}
+use mathlib.Core.Path.{_≡_, sym, ap, _∙_}
+use mathlib.Core.Bool.{cond}
+use mathlib.Core.List.{List}
 use mathlib.Core.Logic.{inl, inr}
-use Prim.Native.Nat.{ℕ, _+_, _-_, _≤_, _<_}
+use Prim.Native.Nat.{ℕ, _+_, _≤_, _<_}
 use native.Mathlib.Omega.{arith}
-use lib.Dec.{eqb, leb}
+use lib.Dec.{eqb}
 use lib.ListN.{length, getD, set}
 use Rattle.std.specs.shelf.Lists.{sumBy, countBy}
 use Rattle.std.specs.shelf.Maps.{update}
-use Rattle.std.specs.declared.option.Option.{Option}
 use Rattle.std.specs.declared.option.Option.the-variants.{Some, None}
 use Rattle.std.proofs.shelf.Lists.{getD-past, getD-read}
 use Rattle.std.proofs.shelf.Sums.{sumBy-set}
@@ -18,7 +17,7 @@ use Rattle.std.proofs.shelf.Ways.{tells}
 use Rattle.index.specs.declared.slot.Slot.{Slot}
 use Rattle.index.specs.declared.slot.Slot.the-variants.{Free, Taken}
 use Rattle.index.specs.Slots.{is-taken, holds, number-of}
-use Rattle.index.proofs.Counts.{amount, only, amount-none, number-only}
+use Rattle.index.proofs.Counts.{amount, amount-none, number-only}
 
 -- a taken slot is one of the list's
 pub within-from-taken : {K : Type 0} (xs : List (Slot K)) (p : ℕ) (k : K) (n : ℕ) → getD xs p Free ≡ Taken k n → p < length xs

@@ -1,19 +1,18 @@
 -- A list of slots in which no code stands twice, by sums over its slots: which code has which number.
-use mathlib.Core.Path.{_≡_, refl, sym, ap, _∙_}
-use mathlib.Core.Bool.{Bool, true, false, cond}
+use mathlib.Core.Path.{_≡_, refl}
+use mathlib.Core.Bool.{cond}
 use mathlib.Core.List.{List, [], _∷_}
-use Prim.Native.Nat.{ℕ, _+_, _-_, _≤_, _<_}
+use Prim.Native.Nat.{ℕ, _≤_}
 use native.Mathlib.Omega.{arith}
-use lib.Dec.{eqb, leb}
-use lib.ListN.{length, getD, set}
+use lib.Dec.{eqb}
 use Rattle.std.specs.shelf.Lists.{sumBy, countBy}
 use Rattle.std.specs.declared.option.Option.{Option}
 use Rattle.std.specs.declared.option.Option.the-variants.{Some, None}
-use Rattle.std.proofs.shelf.Sums.{sumBy-cons, sumBy-set}
+use Rattle.std.proofs.shelf.Sums.{sumBy-cons}
 use Rattle.std.proofs.shelf.Ways.{tells}
 use Rattle.index.specs.declared.slot.Slot.{Slot}
 use Rattle.index.specs.declared.slot.Slot.the-variants.{Free, Taken}
-use Rattle.index.specs.Slots.{is-taken, holds, number-of}
+use Rattle.index.specs.Slots.{holds, number-of}
 
 module _ {K : Type 0} (code : K → ℕ) where
   -- the number in a slot that holds a code, else 0

@@ -1,7 +1,7 @@
 -- How far the keys are from their homes, all together: closing a gap brings keys nearer, so it ends.
-use mathlib.Core.Path.{_≡_, refl, sym, ap, _∙_}
+use mathlib.Core.Path.{_≡_}
 use mathlib.Core.List.{List, [], _∷_}
-use Prim.Native.Nat.{ℕ, zero, suc, _+_, _-_, _*_, _%_, _≤_, _<_}
+use Prim.Native.Nat.{ℕ, zero, suc, _+_, _-_, _*_, _%_, _<_}
 use native.Mathlib.Nat.{mul-le-mul-right}
 use native.Mathlib.Omega.{arith}
 use lib.ListN.{length, getD, set, length-set}
@@ -9,7 +9,7 @@ use Rattle.std.proofs.shelf.Lists.{getD-set-other}
 use Rattle.index.specs.declared.slot.Slot.{Slot}
 use Rattle.index.specs.declared.slot.Slot.the-variants.{Free, Taken}
 use Rattle.index.specs.Places.{steps}
-use Rattle.index.proofs.Places.{steps-none, steps-below}
+use Rattle.index.proofs.Places.{steps-below}
 
 -- the sum of a number for each slot and its place, the first at i
 abbrev pub sum-from : {X : Type 0} → (ℕ → X → ℕ) → ℕ → List X → ℕ

@@ -1,19 +1,17 @@
 -- Closing the gap that a freed slot leaves.
-use mathlib.Core.Path.{_≡_, refl, sym, ap, _∙_}
-use mathlib.Core.Bool.{true, false}
+use mathlib.Core.Path.{_≡_, sym, _∙_}
+use mathlib.Core.Bool.{true}
 use mathlib.Core.List.{List}
-use mathlib.Core.Logic.{_⊎_, inl, inr}
+use mathlib.Core.Logic.{inl, inr}
 use Prim.Native.Nat.{ℕ, _+_, _%_, _≤_, _<_}
 use native.Mathlib.Omega.{arith}
 use lib.ListN.{length, getD, set, length-set}
-use Rattle.std.specs.shelf.Lists.{sumBy}
 use Rattle.std.proofs.shelf.Lists.{getD-set-same, getD-set-other}
 use Rattle.std.proofs.shelf.Tests.{both-ways, cases-eq, cases-lt}
 use Rattle.index.specs.declared.slot.Slot.{Slot}
 use Rattle.index.specs.declared.slot.Slot.the-variants.{Free, Taken}
 use Rattle.index.specs.Places.{follower, steps}
 use Rattle.index.specs.Slots.{is-taken, Reached}
-use Rattle.index.specs.Probes.{Vacated}
 use Rattle.index.proofs.Places.{steps-none, steps-same, steps-below, steps-follower, steps-round, steps-before, follower-below}
 use Rattle.index.proofs.Changes.{within-from-taken}
 

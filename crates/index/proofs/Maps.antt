@@ -13,7 +13,7 @@ use Rattle.std.proofs.shelf.Tests.{lt-ltb, le-ltb, or-right, cases-eq}
 use Rattle.std.proofs.shelf.Maps.{update-here, update-apart}
 use Rattle.base.specs.declared.refusal.Refusal.{Refusal}
 use Rattle.base.specs.declared.refusal.Refusal.the-variants.{IndexFull}
-use Rattle.index.specs.Maps.{Map, put-answer, put-map, remove-map}
+use Rattle.index.specs.Maps.{Map, put-answer, after-put, after-remove}
 
 -- an acceptance is no refusal, and a number is not none
 pub ok-not-full : _≡_ {A = Result (Unit {0}) Refusal} (Ok tt) (Err IndexFull) → ⊥
@@ -33,17 +33,17 @@ module _ (m : Map) (code : ℕ) where
   pub put-answer-full : m .at code ≡ None → m .places ≤ m .size → put-answer m code ≡ Err IndexFull
   put-answer-full e full = rw (e, le-ltb (m .size) (m .places) full)
 
-  pub put-map-known : (number old : ℕ) → m .at code ≡ Some old → put-map m code number ≡ record { at = update eqb (m .at) code (Some number); size = m .size; places = m .places }
-  put-map-known number old e = rw e
+  pub after-put-known : (number old : ℕ) → m .at code ≡ Some old → after-put m code number ≡ record { at = update eqb (m .at) code (Some number); size = m .size; places = m .places }
+  after-put-known number old e = rw e
 
-  pub put-map-new : (number : ℕ) → m .at code ≡ None → m .size < m .places → put-map m code number ≡ record { at = update eqb (m .at) code (Some number); size = m .size + 1; places = m .places }
-  put-map-new number e less = rw (e, lt-ltb (m .size) (m .places) less)
+  pub after-put-new : (number : ℕ) → m .at code ≡ None → m .size < m .places → after-put m code number ≡ record { at = update eqb (m .at) code (Some number); size = m .size + 1; places = m .places }
+  after-put-new number e less = rw (e, lt-ltb (m .size) (m .places) less)
 
-  pub put-map-full : (number : ℕ) → m .at code ≡ None → m .places ≤ m .size → put-map m code number ≡ m
-  put-map-full number e full = rw (e, le-ltb (m .size) (m .places) full)
+  pub after-put-full : (number : ℕ) → m .at code ≡ None → m .places ≤ m .size → after-put m code number ≡ m
+  after-put-full number e full = rw (e, le-ltb (m .size) (m .places) full)
 
-  pub remove-map-known : (old : ℕ) → m .at code ≡ Some old → remove-map m code ≡ record { at = update eqb (m .at) code None; size = m .size - 1; places = m .places }
-  remove-map-known old e = rw e
+  pub after-remove-known : (old : ℕ) → m .at code ≡ Some old → after-remove m code ≡ record { at = update eqb (m .at) code None; size = m .size - 1; places = m .places }
+  after-remove-known old e = rw e
 
   unchanged : m .at code ≡ None → (c : ℕ) → update eqb (m .at) code None c ≡ m .at c
   unchanged e c = elim (cases-eq c code) [
@@ -51,6 +51,6 @@ module _ (m : Map) (code : ℕ) where
     | inr other ↦ update-apart (m .at) code None c other
   ]
 
-  pub remove-map-none : m .at code ≡ None → remove-map m code ≡ m
-  remove-map-none e =
+  pub after-remove-none : m .at code ≡ None → after-remove m code ≡ m
+  after-remove-none e =
       rw e (λ i. record { at = fun-ext (unchanged e) i; size = m .size; places = m .places })

@@ -1,12 +1,9 @@
 -- One turn of closing a gap, at a taken slot.
-use mathlib.Core.Path.{_≡_, refl, sym, ap, _∙_}
+use mathlib.Core.Path.{_≡_}
 use mathlib.Core.List.{List}
-use Prim.Native.Nat.{ℕ, _+_, _%_, _≤_, _<_}
+use Prim.Native.Nat.{ℕ, _%_, _≤_, _<_}
 use native.Mathlib.Omega.{arith}
-use lib.ListN.{length, getD, set, length-set}
-use Rattle.std.specs.shelf.Lists.{sumBy}
-use Rattle.std.specs.Slices.{Shuffled}
-use Rattle.std.proofs.shelf.Sorted.{sumBy-shuffled}
+use lib.ListN.{length, getD, set}
 use Rattle.index.specs.declared.slot.Slot.{Slot}
 use Rattle.index.specs.declared.slot.Slot.the-variants.{Free, Taken}
 use Rattle.index.specs.Places.{follower, steps}

@@ -1,16 +1,15 @@
 -- What the calls of an index do to the map that its slots hold.
 use mathlib.Core.Path.{_≡_, refl, sym, ap, _∙_, fun-ext}
-use mathlib.Core.Bool.{true, false, cond}
+use mathlib.Core.Bool.{true, cond}
 use mathlib.Core.List.{List}
 use mathlib.Core.Logic.{inl, inr}
 use Prim.Native.Nat.{ℕ, _+_, _-_, _≤_, _<_}
 use native.Mathlib.Omega.{arith}
 use lib.Dec.{eqb}
 use lib.ListN.{length, getD, set, length-set}
-use Rattle.std.specs.shelf.Lists.{sumBy, countBy}
+use Rattle.std.specs.shelf.Lists.{countBy}
 use Rattle.std.specs.shelf.Maps.{update}
 use Rattle.std.specs.declared.option.Option.the-variants.{Some, None}
-use Rattle.std.specs.declared.result.Result.the-variants.{Ok, Err}
 use Rattle.std.proofs.shelf.Lists.{getD-set-same, getD-set-other, set-set}
 use Rattle.std.proofs.shelf.Maps.{update-update}
 use Rattle.std.proofs.shelf.Sums.{countBy-le-length}
@@ -19,14 +18,14 @@ use Rattle.index.specs.declared.slot.Slot.{Slot}
 use Rattle.index.specs.declared.slot.Slot.the-variants.{Free, Taken}
 use Rattle.index.specs.declared.index.probing.Probe.{Probe}
 use Rattle.index.specs.declared.index.probing.Probe.the-variants.{Found, Vacant, Full}
-use Rattle.index.specs.Maps.{Map, empty, put-answer, put-map, remove-map}
+use Rattle.index.specs.Maps.{Map, empty, after-put, after-remove}
 use Rattle.index.specs.Slots.{is-taken, holds, number-of, slots-map, Before, Reached}
 use Rattle.index.specs.Probes.{Absent, Open, Probed, Vacated}
 use Rattle.index.proofs.Counts.{number-only}
 use Rattle.index.proofs.Searches.{count-none}
 use Rattle.index.proofs.Gaps.{not-free}
 use Rattle.index.proofs.Changes.{within-from-taken, freed-size, freed-different, freed-absent, freed-present, freed-at, filled-size, filled-different, filled-at}
-use Rattle.index.proofs.Maps.{put-map-known, put-map-new, remove-map-known}
+use Rattle.index.proofs.Maps.{after-put-known, after-put-new, after-remove-known}
 
 -- maps with the same numbers, size and places are equal
 same-map : (a b : Map) → ((c : ℕ) → a .at c ≡ b .at c) → a .size ≡ b .size → a .places ≡ b .places → a ≡ b
@@ -118,11 +117,11 @@ module _ {K : Type 0} (code spread : K → ℕ) (xs : List (Slot K)) where
             ∙ ap (λ o. cond (eqb c (code k)) (Some n) o) (freed-at code xs (set xs p Free) p k old there different (λ f. refl) c)
             ∙ update-update eqb (number-of code xs) (code k) None (Some n) c)
 
-        pub replaced-map : slots-map code (set xs p (Taken k n)) ≡ put-map (slots-map code xs) (code k) n
+        pub replaced-map : slots-map code (set xs p (Taken k n)) ≡ after-put (slots-map code xs) (code k) n
         replaced-map =
             same-map (slots-map code (set xs p (Taken k n))) (record { at = update eqb (number-of code xs) (code k) (Some n); size = countBy is-taken xs; places = length xs })
             replaced-at replaced-size (length-set xs p (Taken k n))
-            ∙ sym (put-map-known (slots-map code xs) (code k) n old found-at)
+            ∙ sym (after-put-known (slots-map code xs) (code k) n old found-at)
 
       -- the slots once it is taken out
       module _ (ys : List (Slot K)) (v : Vacated spread xs p ys) where
@@ -132,12 +131,12 @@ module _ {K : Type 0} (code spread : K → ℕ) (xs : List (Slot K)) where
         pub removed-different : (c : ℕ) → countBy (holds code c) ys ≤ 1
         removed-different = freed-different code xs ys p k old there different (v .same)
 
-        pub removed-map : slots-map code ys ≡ remove-map (slots-map code xs) (code k)
+        pub removed-map : slots-map code ys ≡ after-remove (slots-map code xs) (code k)
         removed-map =
             let size = removed-size in
             same-map (slots-map code ys) (record { at = update eqb (number-of code xs) (code k) None; size = countBy is-taken xs - 1; places = length xs })
             (freed-at code xs ys p k old there different (v .same)) (omega arith) (v .long)
-            ∙ sym (remove-map-known (slots-map code xs) (code k) old found-at)
+            ∙ sym (after-remove-known (slots-map code xs) (code k) old found-at)
 
     -- the key stands nowhere, and p is open for it
     module _ (p : ℕ) (k : K) (n : ℕ) (o : Open code spread xs k p) where
@@ -151,8 +150,8 @@ module _ {K : Type 0} (code spread : K → ℕ) (xs : List (Slot K)) where
       pub added-different : (c : ℕ) → countBy (holds code c) (set xs p (Taken k n)) ≤ 1
       added-different = filled-different code xs p k n (o .within) (o .free) different (o .absent)
 
-      pub added-map : slots-map code (set xs p (Taken k n)) ≡ put-map (slots-map code xs) (code k) n
+      pub added-map : slots-map code (set xs p (Taken k n)) ≡ after-put (slots-map code xs) (code k) n
       added-map =
           same-map (slots-map code (set xs p (Taken k n))) (record { at = update eqb (number-of code xs) (code k) (Some n); size = countBy is-taken xs + 1; places = length xs })
           (filled-at code xs p k n (o .within) (o .free) different (o .absent)) added-size (length-set xs p (Taken k n))
-          ∙ sym (put-map-new (slots-map code xs) (code k) n (absent-none k (o .absent)) added-room)
+          ∙ sym (after-put-new (slots-map code xs) (code k) n (absent-none k (o .absent)) added-room)

@@ -37,12 +37,12 @@ abbrev pub has : Map → ℕ → Bool
 has m code = isSome (m .at code)
 
 -- whether a code may be put: it has a number already, or a slot is left
-abbrev pub takes : Map → ℕ → Bool
-takes m code = has m code || ltb (m .size) (m .places)
+abbrev pub accepts : Map → ℕ → Bool
+accepts m code = has m code || ltb (m .size) (m .places)
 
 -- what a put answers
 abbrev pub put-answer : Map → ℕ → Result (Unit {0}) Refusal
-put-answer m code = cond (takes m code) (Ok tt) (Err IndexFull)
+put-answer m code = cond (accepts m code) (Ok tt) (Err IndexFull)
 
 -- the map with a number stored with a code
 abbrev pub stored : Map → ℕ → ℕ → Map
@@ -53,12 +53,12 @@ stored m code number = record {
 }
 
 -- the map after a put, which is as before where the put is refused
-abbrev pub put-map : Map → ℕ → ℕ → Map
-put-map m code number = cond (takes m code) (stored m code number) m
+abbrev pub after-put : Map → ℕ → ℕ → Map
+after-put m code number = cond (accepts m code) (stored m code number) m
 
 -- the map after a remove
-abbrev pub remove-map : Map → ℕ → Map
-remove-map m code = record {
+abbrev pub after-remove : Map → ℕ → Map
+after-remove m code = record {
   at = update eqb (m .at) code None;
   size = cond (has m code) (m .size - 1) (m .size);
   places = m .places;

@@ -3,6 +3,7 @@ use crate::slot::Slot;
 
 mod calls;
 mod probing;
+mod size;
 
 #[derive(Drop)]
 pub struct Index<'a, K> {

@@ -4,7 +4,7 @@ ghost use lib.ListN.{length};
 ghost use Rattle.std.specs.declared.option.Option.the-variants.{None};
 ghost use Rattle.std.specs.declared.result.Result.the-variants.{Err};
 ghost use Rattle.base.specs.declared.refusal.Refusal.the-variants.{IndexFull};
-ghost use Rattle.index.specs.Maps.{Map, Finite, empty, put-answer, put-map, remove-map};
+ghost use Rattle.index.specs.Maps.{empty, put-answer, after-put, after-remove};
 ghost use Rattle.index.specs.Probes.{Probed};
 ghost use Rattle.index.specs.Slots.{map-of, slots-of, Sound};
 use super::Index;
@@ -25,15 +25,6 @@ impl<'a, K: Key> Index<'a, K> {
             *slot = Slot::Free;
         }
         Index { slots, taken: 0 }
-    }
-
-    // How many keys the index has.
-    pub fn len(&self) -> usize
-        requires { ⌜ Sound (K·Key .code) (K·Key .spread) (now self) ⌝ }
-        ensures answer { λ r. ⌜ r ≡ map-of (K·Key .code) (now (self .entry)) .size ⌝ }
-        ensures finite { λ _. ⌜ Finite (map-of (K·Key .code) (now (self .entry))) ⌝ }
-    {
-        self.taken
     }
 
     // The number stored with the key.
@@ -60,8 +51,8 @@ impl<'a, K: Key> Index<'a, K> {
         requires { ⌜ Sound (K·Key .code) (K·Key .spread) (now self) ⌝ }
         ensures sound { λ _. ⌜ Sound (K·Key .code) (K·Key .spread) (now (self .exit)) ⌝ }
         ensures answer { λ r. ⌜ r ≡ put-answer (map-of (K·Key .code) (now (self .entry))) (K·Key .code key) ⌝ }
-        ensures map { λ _. ⌜ map-of (K·Key .code) (now (self .exit)) ≡ put-map (map-of (K·Key .code) (now (self .entry))) (K·Key .code key) number ⌝ }
-        ensures refused { λ r. ⌜ (r ≡ Err IndexFull → slots-of (now (self .exit)) ≡ slots-of (now (self .entry))) ⌝ }
+        ensures map { λ _. ⌜ map-of (K·Key .code) (now (self .exit)) ≡ after-put (map-of (K·Key .code) (now (self .entry))) (K·Key .code key) number ⌝ }
+        ensures refused { λ r. ⌜ (r ≡ Err IndexFull → now (self .exit) ≡ now (self .entry)) ⌝ }
     {
         match self.probe(&key) {
             Probe::Found { place, .. } => {
@@ -82,8 +73,8 @@ impl<'a, K: Key> Index<'a, K> {
         requires { ⌜ Sound (K·Key .code) (K·Key .spread) (now self) ⌝ }
         ensures sound { λ _. ⌜ Sound (K·Key .code) (K·Key .spread) (now (self .exit)) ⌝ }
         ensures answer { λ r. ⌜ r ≡ map-of (K·Key .code) (now (self .entry)) .at (K·Key .code (now (key .entry))) ⌝ }
-        ensures map { λ _. ⌜ map-of (K·Key .code) (now (self .exit)) ≡ remove-map (map-of (K·Key .code) (now (self .entry))) (K·Key .code (now (key .entry))) ⌝ }
-        ensures absent { λ r. ⌜ (r ≡ None → slots-of (now (self .exit)) ≡ slots-of (now (self .entry))) ⌝ }
+        ensures map { λ _. ⌜ map-of (K·Key .code) (now (self .exit)) ≡ after-remove (map-of (K·Key .code) (now (self .entry))) (K·Key .code (now (key .entry))) ⌝ }
+        ensures absent { λ r. ⌜ (r ≡ None → now (self .exit) ≡ now (self .entry)) ⌝ }
     {
         match self.probe(key) {
             Probe::Found { place, number } => {

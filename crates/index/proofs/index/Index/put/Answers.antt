@@ -1,11 +1,11 @@
-use mathlib.Core.Path.{_≡_, refl, sym, ap, _∙_}
-use Prim.Native.Nat.{_+_, _<_, _≤_}
+use mathlib.Core.Path.{refl, sym, _∙_}
+use Prim.Native.Nat.{_<_, _≤_}
 use native.Mathlib.Omega.{arith}
 use lib.ListN.{length}
 use borrow.Author.Needs.{needs}
 use Rattle.index.specs.Slots.{slots-of, slots-map}
 use Rattle.index.proofs.Changes.{within-from-taken}
-use Rattle.index.proofs.Maps.{ok-not-full, put-answer-known, put-answer-new, put-answer-full, put-map-full}
+use Rattle.index.proofs.Maps.{ok-not-full, put-answer-known, put-answer-new, put-answer-full, after-put-full}
 use Rattle.index.proofs.Updates.{absent-none, found-at, reached-set, replaced-size, replaced-different, replaced-map, added-size, added-room, added-different, added-map}
 use Rattle.index.proofs.index.Index.put.Needs as need
 
@@ -46,9 +46,10 @@ returns-in-Vacant g c =
     let xs = slots-of (c .args .self .now) in let p = c .in-Vacant .place in let k = c .args .key in let n = c .args .number in
     let open′ = c .in-Vacant .ensures tt in
     let different = c .pre .different in
+    let size = added-size code spread xs different p k n open′ in
     record {
       sound = record {
-        counted = ap (λ m. m + 1) (c .pre .counted) ∙ sym (added-size code spread xs different p k n open′);
+        counted = omega (arith, c .pre .counted);
         different = added-different code spread xs different p k n open′;
         reached = reached-set code spread xs p k n (open′ .within) (c .pre .reached) (open′ .way);
       };
@@ -66,6 +67,6 @@ returns-in-Full g c =
     record {
       sound = c .pre;
       answer = sym (put-answer-full (slots-map code xs) (code k) none full);
-      map = sym (put-map-full (slots-map code xs) (code k) (c .args .number) none full);
+      map = sym (after-put-full (slots-map code xs) (code k) (c .args .number) none full);
       refused = λ e. refl;
     }

@@ -1,8 +1,8 @@
-use mathlib.Core.Path.{_≡_, refl, sym, _∙_}
+use mathlib.Core.Path.{refl, sym}
 use native.Mathlib.Omega.{arith}
 use Rattle.index.specs.Slots.{slots-of, slots-map}
 use Rattle.index.proofs.Changes.{within-from-taken}
-use Rattle.index.proofs.Maps.{some-not-none, remove-map-none}
+use Rattle.index.proofs.Maps.{some-not-none, after-remove-none}
 use Rattle.index.proofs.Updates.{found-at, absent-none, absent-from-rest, removed-size, removed-different, removed-map}
 use Rattle.index.proofs.index.Index.remove.Needs as need
 
@@ -43,6 +43,6 @@ returns-in-rest g c =
     record {
       sound = c .pre;
       answer = sym none;
-      map = sym (remove-map-none (slots-map code xs) (code k) none);
+      map = sym (after-remove-none (slots-map code xs) (code k) none);
       absent = λ e. refl;
     }
