@@ -1,0 +1,10 @@
+pub mod Places
+pub mod Counts
+pub mod Changes
+pub mod Finites
+pub mod Searches
+pub mod Gaps
+pub mod Distances
+pub mod Turns
+pub mod Maps
+pub mod Updates

@@ -1,0 +1,4 @@
+pub mod Maps
+pub mod Places
+pub mod Slots
+pub mod Probes
