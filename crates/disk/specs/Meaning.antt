@@ -2,7 +2,7 @@
 use mathlib.Core.Path.{_≡_}
 use mathlib.Core.Bool.{Bool, false, cond}
 use mathlib.Core.List.{List}
-use Prim.Native.Nat.{ℕ, _+_, _-_, _^_, _<_, min}
+use Prim.Native.Nat.{ℕ, _+_, _-_, _^_, _<_, _≤_, min}
 use lib.Dec.{eqb, ltb}
 use lib.ListN.{length}
 use Rattle.std.specs.declared.result.Result.{Result}
@@ -63,3 +63,7 @@ after-write m sector buffer = cond (serves m sector (length buffer)) (written-on
 -- every sector of a disk has 512 bytes
 abbrev pub Sized : Meaning → Type 0
 Sized m = (x : ℕ) → x < m .count → length (m .bytes x) ≡ 512
+
+-- both tallies have 64 bits
+abbrev pub Tallied : Meaning → Type 0
+Tallied m = (m .reads ≤ largest-tally) × (m .writes ≤ largest-tally)

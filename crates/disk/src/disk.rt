@@ -1,7 +1,8 @@
 // A disk: what its calls do is said once, by its meaning, and each kind of disk is proved to do it.
 ghost use mathlib.Core.Path.{_≡_};
+ghost use Prim.Native.Nat.{_≤_};
 ghost use lib.ListN.{length};
-ghost use Rattle.disk.specs.Meaning.{Meaning, Sized, answer, after-read, buffer-read, after-write};
+ghost use Rattle.disk.specs.Meaning.{Meaning, Sized, Tallied, largest-tally, answer, after-read, buffer-read, after-write};
 use base::Refusal;
 
 // How many reads and writes a disk has served; each stays at its largest value.
@@ -9,6 +10,16 @@ use base::Refusal;
 pub struct Tallies {
     pub reads: u64,
     pub writes: u64,
+}
+
+impl Tallies {
+    pub fn new(reads: u64, writes: u64) -> Tallies
+        ensures reads { λ r. ⌜ r .reads ≡ reads ⌝ }
+        ensures writes { λ r. ⌜ r .writes ≡ writes ⌝ }
+        ensures bounded { λ _. ⌜ reads ≤ largest-tally ⌝ ∗ ⌜ writes ≤ largest-tally ⌝ }
+    {
+        Tallies { reads, writes }
+    }
 }
 
 pub trait Disk {
@@ -25,7 +36,8 @@ pub trait Disk {
     fn tallies(&self) -> Tallies
         requires { ⌜ sound (now self) ⌝ }
         ensures reads { λ r. ⌜ r .reads ≡ meaning (now (self .entry)) .reads ⌝ }
-        ensures writes { λ r. ⌜ r .writes ≡ meaning (now (self .entry)) .writes ⌝ };
+        ensures writes { λ r. ⌜ r .writes ≡ meaning (now (self .entry)) .writes ⌝ }
+        ensures bounded { λ _. ⌜ Tallied (meaning (now (self .entry))) ⌝ };
 
     fn read(&mut self, sector: u32, buffer: &mut [u8]) -> Result<(), Refusal>
         requires { ⌜ sound (now self) ⌝ }

@@ -3,7 +3,6 @@ mod calls;
 
 pub use calls::ImageAsDisk;
 
-
 #[derive(Drop)]
 pub struct ImageDisk<'a> {
     image: &'a mut [u8],

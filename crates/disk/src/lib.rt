@@ -2,6 +2,8 @@
 mod disk;
 mod image;
 mod joined;
+mod serve;
+mod turn;
 
 pub use disk::Disk;
 pub use disk::Tallies;
@@ -9,3 +11,6 @@ pub use image::ImageAsDisk;
 pub use image::ImageDisk;
 pub use joined::JoinAsDisk;
 pub use joined::JoinedDisk;
+pub use serve::serve_turns;
+pub use turn::Request;
+pub use turn::Turn;

@@ -116,10 +116,7 @@ pub impl Disk for ImageDisk<'_> as ImageAsDisk {
     }
 
     fn tallies(&self) -> Tallies {
-        Tallies {
-            reads: self.reads,
-            writes: self.writes,
-        }
+        Tallies::new(self.reads, self.writes)
     }
 
     fn read(&mut self, sector: u32, buffer: &mut [u8]) -> Result<(), Refusal> {

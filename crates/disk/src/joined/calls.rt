@@ -126,10 +126,7 @@ pub impl<A: Disk, B: Disk> Disk for JoinedDisk<A, B> as JoinAsDisk {
     }
 
     fn tallies(&self) -> Tallies {
-        Tallies {
-            reads: self.reads,
-            writes: self.writes,
-        }
+        Tallies::new(self.reads, self.writes)
     }
 
     fn read(&mut self, sector: u32, buffer: &mut [u8]) -> Result<(), Refusal> {

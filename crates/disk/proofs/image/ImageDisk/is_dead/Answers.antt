@@ -8,7 +8,6 @@ use Rattle.std.proofs.shelf.Tests.{eq-eqb, ne-eqb, or-left}
 use Rattle.base.specs.Lists.{member}
 use Rattle.disk.proofs.image.ImageDisk.is_dead.Needs as need
 
-
 pub returns-then-number-sector : need.returns-then-number-sector
 returns-then-number-sector c =
     let x = c .args .sector in
