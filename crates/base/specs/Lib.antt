@@ -1,3 +1,4 @@
 pub mod Refusals
 pub mod Geometries
 pub mod Keys
+pub mod Lists

@@ -1,0 +1,5 @@
+pub mod Meaning
+pub mod Image
+pub mod Join
+pub mod Turns
+pub mod Turn
