@@ -8,7 +8,7 @@ use lib.Dec.{ltb}
 use lib.ListN.{length, getD, set, take}
 use Rattle.std.proofs.shelf.Lists.{length-push, length-take-le, getD-take, take-more-set}
 use Rattle.std.proofs.shelf.Tests.{lt-ltb, le-ltb, ltb-true}
-use Rattle.policy.specs.Keys.{member, distinct, without}
+use Rattle.base.specs.Lists.{member, distinct, without}
 use Rattle.policy.specs.Queue.{Queue, to-back, queue-place}
 use Rattle.policy.specs.declared.lru.Lru.{Lru}
 use Rattle.policy.proofs.Members.{apart-push, apart-without, without-gone, distinct-apart, apart-distinct, member-first}

@@ -7,7 +7,7 @@ use native.Mathlib.Omega.{arith}
 use lib.ListN.{length}
 use Rattle.std.proofs.shelf.Lists.{append-nil}
 use Rattle.std.proofs.shelf.Tests.{cases-lt, lt-ltb, le-ltb}
-use Rattle.policy.specs.Keys.{without}
+use Rattle.base.specs.Lists.{without}
 use Rattle.policy.specs.Circle.{circle, onward, upward}
 use Rattle.policy.specs.Queue.{Queue, to-back, queue-place}
 use Rattle.policy.specs.declared.fifo.Fifo.{Fifo}

@@ -8,7 +8,7 @@ use native.Mathlib.Omega.{arith}
 use lib.ListN.{length}
 use Rattle.std.proofs.shelf.Lists.{drop-all}
 use Rattle.std.proofs.shelf.Tests.{cases-bool, cases-lt}
-use Rattle.policy.specs.Keys.{member, place-in, distinct}
+use Rattle.base.specs.Lists.{member, place-in, distinct}
 use Rattle.policy.specs.Machine.{Rules, Machine, put, start, hit, fetch, touched, fetches}
 use Rattle.policy.specs.Law.{Conservative}
 use Rattle.policy.specs.Shape.{Running}

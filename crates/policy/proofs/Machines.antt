@@ -8,7 +8,7 @@ use native.Mathlib.Omega.{arith}
 use lib.ListN.{length, set}
 use Rattle.std.proofs.shelf.Lists.{length-push, length-set}
 use Rattle.std.proofs.shelf.Tests.{cases-lt, cond-both, lt-ltb, le-ltb}
-use Rattle.policy.specs.Keys.{member, place-in, Apart}
+use Rattle.base.specs.Lists.{member, place-in, Apart}
 use Rattle.policy.specs.Machine.{Rules, Machine, put, start, hit, fetch, touch, touched, fetches}
 use Rattle.policy.specs.Shape.{first, placed, used, Shape, Running}
 use Rattle.policy.proofs.Members.{place-within, apart-push, apart-set}

@@ -11,7 +11,7 @@ use Rattle.std.specs.shelf.Lists.{All}
 use Rattle.std.proofs.shelf.Ways.{tells}
 use Rattle.std.proofs.shelf.Tests.{cases-bool, or-cases, or-left, or-right, or-from, eq-eqb, eqb-true, ne-eqb}
 use Rattle.std.proofs.shelf.Elements.{all-weaker}
-use Rattle.policy.specs.Keys.{member, place-in, distinct, Apart, without}
+use Rattle.base.specs.Lists.{member, place-in, distinct, Apart, without}
 
 -- every key of xs is one of ys
 abbrev pub Among : List ℕ → List ℕ → Type 0

@@ -10,7 +10,7 @@ use lib.ListN.{length, getD}
 use Rattle.std.proofs.shelf.Lists.{length-push}
 use Rattle.std.proofs.shelf.Ways.{tells}
 use Rattle.std.proofs.shelf.Tests.{cases-lt, lt-ltb, le-ltb, ltb-true, eq-eqb}
-use Rattle.policy.specs.Keys.{member, without}
+use Rattle.base.specs.Lists.{member, without}
 use Rattle.policy.specs.Order.{Later, OrderedBy}
 use Rattle.policy.specs.Queue.{Queue, to-back, queue-place, queue-rules}
 use Rattle.policy.proofs.Members.{member-first, member-push, member-without, without-misses, without-splits}

@@ -10,7 +10,7 @@ use Rattle.std.specs.shelf.Lists.{All}
 use Rattle.std.proofs.shelf.Lists.{length-append, length-push, length-set, getD-append-left, getD-push, getD-set-same, getD-set-other}
 use Rattle.std.proofs.shelf.Elements.{all-push, all-drop, all-weaker, all-from-getD}
 use Rattle.std.proofs.shelf.Tests.{cases-eq}
-use Rattle.policy.specs.Keys.{member, distinct, Apart}
+use Rattle.base.specs.Lists.{member, distinct, Apart}
 use Rattle.policy.specs.Order.{Later}
 use Rattle.policy.proofs.Members.{all-member, apart-few}
 

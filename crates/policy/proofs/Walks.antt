@@ -9,7 +9,7 @@ use lib.Dec.{eqb}
 use lib.ListN.{length, getD, set, take, drop}
 use Rattle.std.proofs.shelf.Ways.{tells}
 use Rattle.std.proofs.shelf.Tests.{cases-bool, eqb-true}
-use Rattle.policy.specs.Keys.{member, Apart, without}
+use Rattle.base.specs.Lists.{member, Apart, without}
 
 -- the first n of xs, with v put in before place i
 abbrev pub put-in : ℕ → ℕ → List ℕ → ℕ → List ℕ

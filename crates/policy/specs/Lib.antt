@@ -1,4 +1,3 @@
-pub mod Keys
 pub mod Machine
 pub mod Law
 pub mod Shape

@@ -4,7 +4,7 @@ use mathlib.Core.List.{List, [], _∷_, _++_}
 use Prim.Native.Nat.{ℕ, _+_}
 use lib.Dec.{ltb}
 use lib.ListN.{length, set}
-use Rattle.policy.specs.Keys.{member, place-in}
+use Rattle.base.specs.Lists.{member, place-in}
 
 -- What a policy means: the state that a setting and a number of frames give, and what its two calls do.
 pub record Rules (Setting State : Type 0) : Type 0 where

@@ -4,7 +4,7 @@ use mathlib.Core.Bool.{true}
 use mathlib.Core.List.{List, [], _∷_, _++_}
 use Prim.Native.Nat.{ℕ, _<_, _≤_}
 use lib.ListN.{length}
-use Rattle.policy.specs.Keys.{member}
+use Rattle.base.specs.Lists.{member}
 use Rattle.policy.specs.Machine.{Rules}
 
 -- ys is xs with f moved to a later place, or left where it was

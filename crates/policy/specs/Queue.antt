@@ -4,7 +4,7 @@ use mathlib.Core.List.{List, [], _∷_, _++_}
 use Prim.Native.Nat.{ℕ}
 use lib.Dec.{ltb}
 use lib.ListN.{length, getD}
-use Rattle.policy.specs.Keys.{without}
+use Rattle.base.specs.Lists.{without}
 use Rattle.policy.specs.Machine.{Rules}
 
 -- How many frames there are, and the filled ones in their order.

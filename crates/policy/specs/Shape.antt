@@ -2,7 +2,7 @@
 use mathlib.Core.Path.{_≡_}
 use Prim.Native.Nat.{ℕ, suc, _<_, _≤_}
 use lib.ListN.{length}
-use Rattle.policy.specs.Keys.{Apart}
+use Rattle.base.specs.Lists.{Apart}
 use Rattle.policy.specs.Machine.{Rules, Machine}
 
 -- The states that the calls of a policy with k ≥ 1 frames bring up.

@@ -3,7 +3,7 @@ ghost use mathlib.Core.Path.{_≡_};
 ghost use Prim.Native.Nat.{ℕ, _≤_};
 ghost use lib.Dec.{ltb};
 ghost use lib.ListN.{take};
-ghost use Rattle.policy.specs.Keys.{member, distinct};
+ghost use Rattle.base.specs.Lists.{member, distinct};
 
 mod calls;
 mod order;

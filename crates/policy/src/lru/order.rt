@@ -4,7 +4,7 @@ ghost use mathlib.Core.Bool.{true};
 ghost use mathlib.Core.List.{[], _∷_, _++_};
 ghost use Prim.Native.Nat.{_<_, _≤_};
 ghost use lib.ListN.{take};
-ghost use Rattle.policy.specs.Keys.{member, distinct, without};
+ghost use Rattle.base.specs.Lists.{member, distinct, without};
 ghost use Rattle.policy.specs.Queue.{to-back, queue-place};
 ghost use Rattle.policy.specs.Lru.{lru-queue};
 use super::Lru;

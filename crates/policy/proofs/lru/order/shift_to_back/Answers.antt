@@ -8,7 +8,7 @@ use lib.Dec.{eqb}
 use lib.ListN.{length, getD, set, take, drop}
 use Rattle.std.proofs.shelf.Lists.{length-set, length-take-le, length-drop, take-more, take-set, drop-all}
 use Rattle.std.proofs.shelf.Tests.{or-cases, eqb-true}
-use Rattle.policy.specs.Keys.{member}
+use Rattle.base.specs.Lists.{member}
 use Rattle.policy.proofs.Members.{member-push, distinct-apart}
 use Rattle.policy.proofs.Walks.{put-in, walk-step, put-out, moved-last}
 use Rattle.policy.proofs.lru.order.shift_to_back.Needs as need

@@ -2,7 +2,7 @@ use mathlib.Core.Path.{_≡_}
 use mathlib.Core.Bool.{true}
 use mathlib.Core.List.{[], _∷_, _++_}
 use lib.ListN.{length, take}
-use Rattle.policy.specs.Keys.{member}
+use Rattle.base.specs.Lists.{member}
 use Rattle.policy.proofs.Walks.{put-in}
 use Rattle.policy.proofs.lru.order.shift_to_back.Given as given
 
