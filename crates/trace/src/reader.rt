@@ -1,0 +1,16 @@
+// A trace text that is read line by line.
+ghost use Prim.Native.Nat.{_≤_};
+ghost use lib.ListN.{length};
+
+mod calls;
+
+// `place` is where the next line begins, and `line` how many lines were read.
+#[derive(Clone, Copy)]
+pub struct TraceReader<'a> {
+    text: &'a [u8],
+    place: usize,
+    line: u32,
+    ghost short: { length (text .now) ≤ 32768 },
+    ghost within: { place ≤ length (text .now) },
+    ghost counted: { line ≤ place },
+}
