@@ -42,16 +42,16 @@ impl<'a> Line<'a> {
         let (lba, rest) = split_once(rest, b',')?;
         let (size, rest) = split_once(rest, b',')?;
         let (opcode, stamp) = split_once(rest, b',')?;
-        if split_once(stamp, b',').is_some() {
-            return None;
+        match split_once(stamp, b',') {
+            Some(_) => None,
+            None => Some(Fields {
+                asu,
+                lba,
+                size,
+                opcode,
+                stamp,
+            }),
         }
-        Some(Fields {
-            asu,
-            lba,
-            size,
-            opcode,
-            stamp,
-        })
     }
 
     pub fn access(&self) -> Result<Access, LineFault>

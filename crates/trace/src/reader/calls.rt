@@ -1,11 +1,11 @@
 // Handing out one line after another.
 ghost use mathlib.Core.Path.{_≡_};
 ghost use mathlib.Core.List.{[], _∷_};
-ghost use Prim.Native.Nat.{_≤_, _+_, _<_};
-ghost use lib.ListN.{length};
+ghost use Prim.Native.Nat.{_≤_, _<_};
+ghost use lib.ListN.{length, drop};
 ghost use Rattle.std.specs.Options.{Cases};
 ghost use Rattle.trace.specs.Splits.{lines};
-ghost use Rattle.trace.specs.Reading.{unread, line-of, unreturned};
+ghost use Rattle.trace.specs.Reading.{unread, line-of, Advanced, unreturned};
 use super::TraceReader;
 use crate::line::Line;
 use crate::splits::split_once;
@@ -25,25 +25,30 @@ impl<'a> TraceReader<'a> {
 
     // The next line without its ending, unless the text is at its end.
     pub fn next_line(&mut self) -> Option<Line<'a>>
-        ensures { λ r. ⌜ Cases r (unread (now (self .entry)) ≡ []) (λ l. (lines (unread (now (self .entry))) ≡ now (l .text) ∷ lines (unread (now (self .exit)))) × (l .number ≡ line-of (now (self .entry)) + 1) × (line-of (now (self .exit)) ≡ line-of (now (self .entry)) + 1) × (length (unread (now (self .exit))) < length (unread (now (self .entry))))) ⌝ }
+        ensures { λ r. ⌜ Cases r (unread (now (self .entry)) ≡ []) (λ l. Advanced (now (self .entry)) (now (self .exit)) (l .number) (now (l .text))) ⌝ }
     {
         let rest = &self.text[self.place..];
         if rest.is_empty() {
             return None;
         }
-        let text = match split_once(rest, b'\n') {
-            Some((before, _)) => {
-                self.place += before.len() + 1;
-                without_return(before)
-            }
-            None => {
-                self.place = self.text.len();
-                rest
-            }
-        };
+        let (text, len) = first_line(rest);
+        self.place += len;
         self.line += 1;
         let number = self.line;
         Some(Line { number, text })
+    }
+}
+
+// The first line of a text that is not empty, without its ending, and how many bytes it has with it.
+fn first_line(text: &[u8]) -> (&[u8], usize)
+    requires { ⌜ 0 < length (now text) ⌝ }
+    ensures split { λ r. ⌜ lines (now (text .entry)) ≡ now (r .0) ∷ lines (drop (r .1) (now (text .entry))) ⌝ }
+    ensures some { λ r. ⌜ 0 < r .1 ⌝ }
+    ensures within { λ r. ⌜ r .1 ≤ length (now (text .entry)) ⌝ }
+{
+    match split_once(text, b'\n') {
+        Some((before, _)) => (without_return(before), before.len() + 1),
+        None => (text, text.len()),
     }
 }
 
