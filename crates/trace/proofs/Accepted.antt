@@ -19,7 +19,7 @@ use Rattle.trace.specs.declared.fault.FieldFault.{FieldFault}
 use Rattle.trace.specs.declared.fault.LineFault.{LineFault}
 use Rattle.trace.specs.Accesses.{and-then, at-most, sized, sectors-in, opcode-of, time-stamp, access-in, in-line, fields, access-of}
 
-never : {T E : Type 0} {x : T} {e : E} {P : Type 0} → _≡_ {A = Result T E} (Err e) (Ok x) → P
+pub never : {T E : Type 0} {x : T} {e : E} {P : Type 0} → _≡_ {A = Result T E} (Err e) (Ok x) → P
 never h = let z : _≡_ {A = ℕ} 0 1 = cc in absurd (omega arith)
 
 pub ok-same : {T E : Type 0} {x y : T} → _≡_ {A = Result T E} (Ok x) (Ok y) → x ≡ y
@@ -89,7 +89,7 @@ in-line-parts : {T : Type 0} (r : Result T FieldFault) (x : T) → in-line r ≡
 in-line-parts (Ok y) x h = ap (λ z. Ok z) (ok-same h)
 in-line-parts (Err e) x h = never h
 
-choice-parts : {T E : Type 0} (b : Bool) (r : Result T E) (x : T) (e : E) → cond b r (Err e) ≡ Ok x → (b ≡ true) × (r ≡ Ok x)
+pub choice-parts : {T E : Type 0} (b : Bool) (r : Result T E) (x : T) (e : E) → cond b r (Err e) ≡ Ok x → (b ≡ true) × (r ≡ Ok x)
 choice-parts true r x e h = (refl, h)
 choice-parts false r x e h = never h
 

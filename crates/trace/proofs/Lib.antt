@@ -5,3 +5,6 @@ pub mod Sectors
 pub mod Accepted
 pub mod Judging
 pub mod Writing
+pub mod Sound
+pub mod Complete
+pub mod Exact

@@ -77,9 +77,12 @@ first-fed text before behind h =
 pub first-fed-within : (text before behind : List ℕ) → Cut 10 text before behind → length before + 1 ≤ length text
 first-fed-within text before behind h = rw (h .whole, length-append) (omega arith)
 
+pub lines-only : (text : List ℕ) → 0 < length text → Lacks 10 text → lines text ≡ text ∷ []
+lines-only [] l h = absurd (omega arith)
+lines-only (b ∷ bs) l h = lines-last b bs h
+
 pub first-last : (text : List ℕ) → 0 < length text → Lacks 10 text → lines text ≡ text ∷ lines (drop (length text) text)
-first-last [] l h = absurd (omega arith)
-first-last (b ∷ bs) l h = rw (drop-all (length (b ∷ bs)) (b ∷ bs) (omega arith)) (lines-last b bs h)
+first-last text l h = rw (drop-all (length text) text (omega arith)) (lines-only text l h)
 
 -- a line more is read
 pub lines-more : (text rest line : List ℕ) (place len : ℕ) → rest ≡ drop place text → lines rest ≡ line ∷ lines (drop len rest) → lines (drop place text) ≡ line ∷ lines (drop (place + len) text)
@@ -101,3 +104,13 @@ unreturned-kept (b ∷ c ∷ bs) h =
     let p : suc (suc (length bs)) - 1 ≡ suc (length bs) = omega arith in
     let q : suc (length bs) - 1 ≡ length bs = omega arith in
     ap (λ t. b ∷ t) (unreturned-kept (c ∷ bs) (λ l e. h (omega arith) (rw p (rw q at e))))
+
+pub unreturned-none : (bs : List ℕ) → Lacks 13 bs → unreturned bs ≡ bs
+unreturned-none [] h = refl
+unreturned-none (b ∷ []) h = rw (ne-eqb b 13 (h .0))
+unreturned-none (b ∷ c ∷ bs) h = ap (λ t. b ∷ t) (unreturned-none (c ∷ bs) (h .1))
+
+pub unreturned-one : (bs : List ℕ) → unreturned (bs ++ (13 ∷ [])) ≡ bs
+unreturned-one [] = refl
+unreturned-one (b ∷ []) = refl
+unreturned-one (b ∷ c ∷ bs) = ap (λ t. b ∷ t) (unreturned-one (c ∷ bs))

@@ -4,3 +4,4 @@ pub mod Numerals
 pub mod Accesses
 pub mod Touches
 pub mod Reading
+pub mod Traces

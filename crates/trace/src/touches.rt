@@ -8,6 +8,7 @@ ghost use Rattle.std.specs.Results.{isOk};
 ghost use Rattle.base.specs.Keys.{volume-code};
 ghost use Rattle.trace.specs.Splits.{lines};
 ghost use Rattle.trace.specs.Touches.{touches, judged-lines, judged, counted, touches-in, Filled, Written};
+ghost use Rattle.trace.specs.Traces.{Reads};
 use crate::access::Access;
 use crate::fault::LineFault;
 use crate::fault::ReplayFault;
@@ -20,6 +21,7 @@ use base::VolumeKey;
 pub fn read_trace(text: &[u8], keys: &mut [VolumeKey]) -> Result<usize, ReplayFault>
     ensures answer { λ r. ⌜ r ≡ counted (judged (now (text .entry)) (length (now (keys .entry)))) ⌝ }
     ensures keys { λ _. ⌜ Written (judged (now (text .entry)) (length (now (keys .entry)))) (now (keys .entry)) (now (keys .exit)) ⌝ }
+    ensures trace { λ r. ⌜ Reads (now (text .entry)) r (now (keys .entry)) (now (keys .exit)) ⌝ }
 {
     if text.len() > 32_768 {
         return Err(ReplayFault::Refused(Refusal::TraceTooLong));
