@@ -38,19 +38,22 @@ pub cond-parts : {T E : Type 0} (b : Bool) (x y : T) (e : E) → cond b (Ok x) (
 cond-parts true x y e h = (refl, ok-same h)
 cond-parts false x y e h = never h
 
+-- a size is so many whole sectors
+whole-sectors : (size k : ℕ) → sized size ≡ true → size / 512 ≡ k → (size ≡ k * 512) × (1 ≤ k) × (k ≤ 128)
+whole-sectors size k e is =
+    let p = and-parts (leb 512 size && leb size 65536) (eqb (size % 512) 0) e in
+    let q = and-parts (leb 512 size) (leb size 65536) (p .0) in
+    let low = leb-true 512 size (q .0) in
+    let high = leb-true size 65536 (q .1) in
+    let even = eqb-true (size % 512) 0 (p .1) in
+    (omega arith, omega arith, omega arith)
+
 pub sectors-read : (n : ℕ) (bs : List ℕ) (k : ℕ) → sectors-in n bs ≡ Ok k → (numeral 10 bs ≡ Some (k * 512)) × (1 ≤ k) × (k ≤ 128)
 sectors-read n bs k h =
     let p = then-parts _ _ k h in
-    let size = p .0 in
-    let q = cond-parts (sized size) (size / 512) k _ (p .2) in
-    let s = and-parts _ _ (q .0) in
-    let t = and-parts _ _ (s .0) in
-    let low : 512 ≤ size = leb-true 512 size (t .0) in
-    let high : size ≤ 65536 = leb-true size 65536 (t .1) in
-    let even : size % 512 ≡ 0 = eqb-true (size % 512) 0 (s .1) in
-    let is : size / 512 ≡ k = q .1 in
-    let same : size ≡ k * 512 = omega arith in
-    (okOr-parts _ _ size (p .1) ∙ ap (λ z. Some z) same, omega arith, omega arith)
+    let q = cond-parts (sized (p .0)) (p .0 / 512) k _ (p .2) in
+    let w = whole-sectors (p .0) k (q .0) (q .1) in
+    (okOr-parts _ _ (p .0) (p .1) ∙ ap (λ z. Some z) (w .0), w .1, w .2)
 
 -- what the fields of an accepted line hold
 pub record Held (asu lba size opcode stamp : List ℕ) (a : Access) : Type 0 where

@@ -35,6 +35,7 @@ counted-err (Ok ts) f h = never (sym h)
 counted-err (Err e) f h = let same : e ≡ f = cc in ap (λ g. Err g) same
 
 judged-sound : (text : List ℕ) (places : ℕ) (ts : List ℕ) → judged text places ≡ Ok ts → Within text (length ts) places × Trace text ts
+unfolding judged
 judged-sound text places ts h =
     let p = choice-parts (leb (length text) 32768) _ ts _ h in
     let q = then-parts (in-replay (judged-lines 1 0 (lines text))) (placed places) ts (p .1) in
@@ -45,6 +46,7 @@ judged-sound text places ts h =
     (record { short = leb-true (length text) 32768 (p .0); few = omega arith; room = room }, text-sound text ts e)
 
 judged-complete : (text : List ℕ) (places : ℕ) (ts : List ℕ) → Trace text ts → Within text (length ts) places → judged text places ≡ Ok ts
+unfolding judged
 judged-complete text places ts h w =
     let few : 0 + length ts ≤ 4096 = omega (arith, w .few) in
     rw (le-leb (length text) 32768 (w .short), trace-accepted h 1 0 few, le-leb (length ts) places (w .room))
@@ -68,18 +70,22 @@ reads-all text answer before after is written = record {
 -- how a text is judged, by what its length and its lines tell
 module _ (text : List ℕ) (places : ℕ) where
   pub judged-long : 32768 < length text → judged text places ≡ Err (replay-fault.Refused refusal.TraceTooLong)
+  unfolding judged
   judged-long h = rw (lt-leb (length text) 32768 h)
 
   module _ (short : length text ≤ 32768) where
     pub judged-faulty : (f : LineFault) → Err f ≡ counted (judged-lines 1 0 (lines text)) → judged text places ≡ Err (replay-fault.Line f)
+    unfolding judged
     judged-faulty f e = rw (le-leb (length text) 32768 short, counted-err (judged-lines 1 0 (lines text)) f (sym e))
 
     pub judged-full : (n : ℕ) → Ok n ≡ counted (judged-lines 1 0 (lines text)) → places < n → judged text places ≡ Err (replay-fault.Refused refusal.TooFewPlaces)
+    unfolding judged
     judged-full n e h =
         let p = counted-parts (judged-lines 1 0 (lines text)) n (sym e) in
         rw (le-leb (length text) 32768 short, p .1, lt-leb (length (p .0)) places (omega (arith, p .2)))
 
     pub judged-fits : (n : ℕ) → Ok n ≡ counted (judged-lines 1 0 (lines text)) → n ≤ places → (judged text places ≡ Ok (touches-in text)) × (length (touches-in text) ≡ n)
+    unfolding judged
     judged-fits n e h =
         let p = counted-parts (judged-lines 1 0 (lines text)) n (sym e) in
         (rw (le-leb (length text) 32768 short, p .1, le-leb (length (p .0)) places (omega (arith, p .2))), rw (p .1) (p .2))

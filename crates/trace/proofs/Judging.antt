@@ -53,6 +53,6 @@ module _ (n t : ℕ) (l : List ℕ) (ls : List (List ℕ)) where
       (a, p .1, leb-true _ _ (few .0), (r .0, ap (λ s. judged-lines (n + 1) s ls) (few .1) ∙ r .1, ok-same (r .2)))
 
 -- one turn of counting
-pub count-more : (now next number t : ℕ) (rest : List (List ℕ)) (l : List ℕ) (ls : List (List ℕ)) (a : Access) (all : Result ℕ LineFault) → added t (judged-lines (now + 1) t rest) ≡ all → rest ≡ l ∷ ls → number ≡ now + 1 → next ≡ now + 1 → access-of number l ≡ Ok a → t + a .sectors ≤ 4096 → added (t + a .sectors) (judged-lines (next + 1) (t + a .sectors) ls) ≡ all
+pub count-more : (now next number t : ℕ) (rest : List (List ℕ)) (l : List ℕ) (ls : List (List ℕ)) (a : Access) (all : Result ℕ LineFault) → added t (judged-lines (now + 1) t rest) ≡ all → rest ≡ l ∷ ls → number ≡ now + 1 → next ≡ now + 1 → Ok a ≡ access-of number l → t + a .sectors ≤ 4096 → added (t + a .sectors) (judged-lines (next + 1) (t + a .sectors) ls) ≡ all
 count-more now next number t rest l ls a all inv lines is counts e h =
-    rw counts (sym (judged-more (now + 1) t l ls a (ap (λ m. access-of m l) (sym is) ∙ e) h) ∙ ap (λ r. added t (judged-lines (now + 1) t r)) (sym lines) ∙ inv)
+    rw counts (sym (judged-more (now + 1) t l ls a (ap (λ m. access-of m l) (sym is) ∙ sym e) h) ∙ ap (λ r. added t (judged-lines (now + 1) t r)) (sym lines) ∙ inv)

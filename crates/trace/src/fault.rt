@@ -8,7 +8,7 @@ use base::Refusal;
 mod reports;
 
 // The five fields of a line, in their order.
-#[derive(Clone, Copy)]
+#[derive(Clone, Copy, PartialEq, Eq, Debug)]
 pub enum Field {
     Asu,
     Lba,
@@ -41,7 +41,7 @@ pub enum ReplayFault {
 }
 
 // What a fault is reported by: lines and fields count from 1, and 0 stands for none.
-#[derive(Clone, Copy)]
+#[derive(Clone, Copy, PartialEq, Eq, Debug)]
 pub struct Report {
     pub number: u8,
     pub line: u32,

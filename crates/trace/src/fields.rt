@@ -9,6 +9,14 @@ use crate::fault::FieldFault;
 use crate::splits::split_once;
 use base::Refusal;
 
+const NUMBER_DIGITS: usize = 10;
+
+const FRACTION_DIGITS: usize = 9;
+
+const SECTOR_BYTES: u64 = 512;
+
+const MAX_BYTES: u64 = 65_536;
+
 // The number that one to `most` decimal digits write.
 fn read_digits(text: &[u8], most: usize) -> Option<u64>
     requires { ⌜ most ≤ 10 ⌝ }
@@ -19,7 +27,7 @@ fn read_digits(text: &[u8], most: usize) -> Option<u64>
     }
     let mut value: u64 = 0;
     for b in text {
-        if *b < b'0' || *b > b'9' {
+        if !b.is_ascii_digit() {
             return None;
         }
         value = value * 10 + (*b - b'0') as u64;
@@ -31,7 +39,7 @@ fn read_digits(text: &[u8], most: usize) -> Option<u64>
 fn read_number(text: &[u8], greatest: u64, line: u32, field: Field) -> Result<u64, FieldFault>
     ensures { λ r. ⌜ r ≡ number-in line field greatest (now (text .entry)) ⌝ }
 {
-    match read_digits(text, 10) {
+    match read_digits(text, NUMBER_DIGITS) {
         Some(n) if n <= greatest => Ok(n),
         _ => Err(FieldFault {
             line,
@@ -44,14 +52,14 @@ fn read_number(text: &[u8], greatest: u64, line: u32, field: Field) -> Result<u6
 pub fn read_asu(text: &[u8], line: u32) -> Result<u8, FieldFault>
     ensures { λ r. ⌜ r ≡ number-in line Field.Asu 255 (now (text .entry)) ⌝ }
 {
-    let n = read_number(text, 255, line, Field::Asu)?;
+    let n = read_number(text, u8::MAX as u64, line, Field::Asu)?;
     Ok(n as u8)
 }
 
 pub fn read_lba(text: &[u8], line: u32) -> Result<u32, FieldFault>
     ensures { λ r. ⌜ r ≡ number-in line Field.Lba 4294967295 (now (text .entry)) ⌝ }
 {
-    let n = read_number(text, 4_294_967_295, line, Field::Lba)?;
+    let n = read_number(text, u32::MAX as u64, line, Field::Lba)?;
     Ok(n as u32)
 }
 
@@ -60,21 +68,21 @@ pub fn read_sectors(text: &[u8], line: u32) -> Result<u32, FieldFault>
     ensures { λ r. ⌜ r ≡ sectors-in line (now (text .entry)) ⌝ }
 {
     let field = Field::Size;
-    let Some(size) = read_digits(text, 10) else {
+    let Some(size) = read_digits(text, NUMBER_DIGITS) else {
         return Err(FieldFault {
             line,
             field,
             refusal: Refusal::NotANumber,
         });
     };
-    if size < 512 || size > 65_536 || size % 512 != 0 {
+    if size < SECTOR_BYTES || size > MAX_BYTES || size % SECTOR_BYTES != 0 {
         return Err(FieldFault {
             line,
             field,
             refusal: Refusal::BadSize,
         });
     }
-    Ok((size / 512) as u32)
+    Ok((size / SECTOR_BYTES) as u32)
 }
 
 pub fn read_opcode(text: &[u8], line: u32) -> Result<Opcode, FieldFault>
@@ -100,9 +108,10 @@ fn is_time_stamp(text: &[u8]) -> bool
 {
     match split_once(text, b'.') {
         Some((whole, fraction)) => {
-            read_digits(whole, 10).is_some() && read_digits(fraction, 9).is_some()
+            read_digits(whole, NUMBER_DIGITS).is_some()
+                && read_digits(fraction, FRACTION_DIGITS).is_some()
         }
-        None => read_digits(text, 10).is_some(),
+        None => read_digits(text, NUMBER_DIGITS).is_some(),
     }
 }
 

@@ -15,4 +15,6 @@ pub use fault::ReplayFault;
 pub use fault::ReplayFaultFromLine;
 pub use fault::ReplayFaultFromRefusal;
 pub use fault::Report;
+pub use fault::ReportDebug;
+pub use fault::ReportPartialEq;
 pub use touches::read_trace;

@@ -61,8 +61,7 @@ impl<'a> Line<'a> {
         let Some(fields) = self.split() else {
             return Err(LineFault::FieldCount { line });
         };
-        let access = fields.access(line)?;
-        Ok(access)
+        Ok(fields.access(line)?)
     }
 }
 

@@ -17,13 +17,17 @@ use crate::reader::TraceReader;
 use base::Refusal;
 use base::VolumeKey;
 
+const MAX_TEXT_BYTES: usize = 32_768;
+
+const MAX_TOUCHES: usize = 4_096;
+
 // Reads a trace into keys, one for each touch, and answers how many.
 pub fn read_trace(text: &[u8], keys: &mut [VolumeKey]) -> Result<usize, ReplayFault>
     ensures answer { λ r. ⌜ r ≡ counted (judged (now (text .entry)) (length (now (keys .entry)))) ⌝ }
     ensures keys { λ _. ⌜ Written (judged (now (text .entry)) (length (now (keys .entry)))) (now (keys .entry)) (now (keys .exit)) ⌝ }
     ensures trace { λ r. ⌜ Reads (now (text .entry)) r (now (keys .entry)) (now (keys .exit)) ⌝ }
 {
-    if text.len() > 32_768 {
+    if text.len() > MAX_TEXT_BYTES {
         return Err(ReplayFault::Refused(Refusal::TraceTooLong));
     }
     let count = count_touches(text)?;
@@ -44,7 +48,7 @@ fn count_touches(text: &[u8]) -> Result<usize, LineFault>
     while let Some(line) = reader.next_line() {
         let access = line.access()?;
         count += access.sectors as usize;
-        if count > 4096 {
+        if count > MAX_TOUCHES {
             return Err(LineFault::TooManyTouches { line: line.number });
         }
     }
