@@ -22,7 +22,6 @@ use Rattle.trace.specs.declared.fault.LineFault.{LineFault}
 use Rattle.trace.specs.declared.fault.LineFault.the-variants as line-fault
 use Rattle.trace.specs.Splits.{parts, lines, Lacks}
 use Rattle.trace.specs.Numerals.{digit, all-digits, value, numeral}
-use Rattle.trace.specs.Reading.{unreturned}
 use Rattle.trace.specs.Accesses.{opcode-of, time-stamp, access-in, in-line, access-of, sectors-in}
 use Rattle.trace.specs.Touches.{touches, judged-lines}
 use Rattle.trace.specs.Traces.{Number, OpcodeText, upper-r, lower-r, upper-w, lower-w, TimeStamp, whole, fraction, Line, Trace, none, last, fed, returned}

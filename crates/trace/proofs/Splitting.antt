@@ -5,12 +5,12 @@ use mathlib.Core.Logic.{inl, inr}
 use mathlib.Core.List.{List, [], _∷_, _++_}
 use Prim.Native.Nat.{ℕ, suc, _+_, _-_, _<_, _≤_}
 use native.Mathlib.Omega.{arith}
-use lib.Dec.{eqb}
+use lib.Dec.{eqb, ltb}
 use lib.ListN.{length, take, drop, getD, length-append}
 use Rattle.std.proofs.shelf.Lists.{drop-drop, drop-at, drop-all}
-use Rattle.std.proofs.shelf.Tests.{ne-eqb, eq-eqb, eqb-true, cases-bool, and-right}
+use Rattle.std.proofs.shelf.Tests.{ne-eqb, eq-eqb, eqb-true, lt-ltb, ltb-true, cases-bool, and-from, and-parts, and-right, both-ways}
 use Rattle.trace.specs.Splits.{led, parts, feeds, lines, Lacks, Cut}
-use Rattle.trace.specs.Reading.{unreturned}
+use Rattle.trace.specs.Reading.{Stripped}
 
 pub parts-none : (mark : ℕ) (bs : List ℕ) → Lacks mark bs → parts mark bs ≡ bs ∷ []
 parts-none mark [] h = refl
@@ -62,6 +62,12 @@ pub lines-last : (b : ℕ) (bs : List ℕ) → Lacks 10 (b ∷ bs) → lines (b 
 lines-last b [] h = lines-byte b [] (h .0) refl
 lines-last b (c ∷ bs) h = lines-byte b (c ∷ bs) (h .0) (ne-eqb c 10 (h .1 .0)) ∙ ap (led b) (lines-last c bs (h .1))
 
+-- bytes without a carriage return at their end
+abbrev pub unreturned : List ℕ → List ℕ
+unreturned [] = []
+unreturned (b ∷ []) = cond (eqb b 13) [] (b ∷ [])
+unreturned (b ∷ c ∷ bs) = b ∷ unreturned (c ∷ bs)
+
 pub lines-fed : (bs rest : List ℕ) → Lacks 10 bs → lines (bs ++ (10 ∷ rest)) ≡ unreturned bs ∷ lines rest
 lines-fed [] rest h = refl
 lines-fed (b ∷ []) rest h = rw (ne-eqb b 10 (h .0)) (elim (cases-bool (eqb b 13)) [ inl e ↦ rw e | inr e ↦ rw e ])
@@ -89,7 +95,7 @@ pub lines-more : (text rest line : List ℕ) (place len : ℕ) → rest ≡ drop
 lines-more text rest line place len e h =
     ap lines (sym e) ∙ h ∙ ap (λ t. line ∷ lines t) (ap (drop len) e ∙ drop-drop len place text)
 
-pub unreturned-off : (bs : List ℕ) → 0 < length bs → getD bs (length bs - 1) 0 ≡ 13 → take (length bs - 1) bs ≡ unreturned bs
+unreturned-off : (bs : List ℕ) → 0 < length bs → getD bs (length bs - 1) 0 ≡ 13 → take (length bs - 1) bs ≡ unreturned bs
 unreturned-off [] l e = absurd (omega arith)
 unreturned-off (b ∷ []) l e = rw (eq-eqb b 13 e)
 unreturned-off (b ∷ c ∷ bs) l e =
@@ -97,13 +103,26 @@ unreturned-off (b ∷ c ∷ bs) l e =
     let q : suc (length bs) - 1 ≡ length bs = omega arith in
     rw p (ap (λ t. b ∷ t) (rw (← q) (unreturned-off (c ∷ bs) (omega arith) (rw q (rw p at e)))))
 
-pub unreturned-kept : (bs : List ℕ) → (0 < length bs → getD bs (length bs - 1) 0 ≡ 13 → ⊥) → bs ≡ unreturned bs
+unreturned-kept : (bs : List ℕ) → (0 < length bs → getD bs (length bs - 1) 0 ≡ 13 → ⊥) → bs ≡ unreturned bs
 unreturned-kept [] h = refl
 unreturned-kept (b ∷ []) h = rw (ne-eqb b 13 (h (omega arith)))
 unreturned-kept (b ∷ c ∷ bs) h =
     let p : suc (suc (length bs)) - 1 ≡ suc (length bs) = omega arith in
     let q : suc (length bs) - 1 ≡ length bs = omega arith in
     ap (λ t. b ∷ t) (unreturned-kept (c ∷ bs) (λ l e. h (omega arith) (rw p (rw q at e))))
+
+pub stripped-is : (line rest : List ℕ) → Stripped line rest → rest ≡ unreturned line
+stripped-is line rest h =
+    elim (cases-bool (ltb 0 (length line) && eqb (getD line (length line - 1) 0) 13)) [
+      | inl e ↦
+          let p = and-parts _ _ e in
+          let some = ltb-true 0 (length line) (p .0) in
+          let last = eqb-true (getD line (length line - 1) 0) 13 (p .1) in
+          h .off some last ∙ unreturned-off line some last
+      | inr e ↦
+          let other : 0 < length line → getD line (length line - 1) 0 ≡ 13 → ⊥ = λ l q. both-ways _ e (and-from _ _ (lt-ltb 0 (length line) l) (eq-eqb (getD line (length line - 1) 0) 13 q)) in
+          h .kept other ∙ unreturned-kept line other
+    ]
 
 pub unreturned-none : (bs : List ℕ) → Lacks 13 bs → unreturned bs ≡ bs
 unreturned-none [] h = refl

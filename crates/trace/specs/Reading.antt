@@ -1,10 +1,8 @@
 -- What a reader of a trace has still to hand out. Assumes nothing.
 use mathlib.Core.Path.{_≡_}
-use mathlib.Core.Bool.{cond}
-use mathlib.Core.List.{List, [], _∷_}
-use Prim.Native.Nat.{ℕ, _+_, _<_}
-use lib.Dec.{eqb}
-use lib.ListN.{length, drop}
+use mathlib.Core.List.{List, _∷_}
+use Prim.Native.Nat.{ℕ, _+_, _-_, _<_}
+use lib.ListN.{length, getD, take, drop}
 use Rattle.trace.specs.Splits.{lines}
 use Rattle.trace.specs.declared.reader.TraceReader.{TraceReader}
 
@@ -21,8 +19,7 @@ pub record Advanced (before after : TraceReader) (number : ℕ) (text : List ℕ
   pub counted : line-of after ≡ line-of before + 1
   pub fewer : length (unread after) < length (unread before)
 
--- bytes without a carriage return at their end
-abbrev pub unreturned : List ℕ → List ℕ
-unreturned [] = []
-unreturned (b ∷ []) = cond (eqb b 13) [] (b ∷ [])
-unreturned (b ∷ c ∷ bs) = b ∷ unreturned (c ∷ bs)
+-- a line that loses a carriage return at its end, and nothing else
+pub record Stripped (line rest : List ℕ) : Type 0 where
+  pub off : 0 < length line → getD line (length line - 1) 0 ≡ 13 → rest ≡ take (length line - 1) line
+  pub kept : (0 < length line → getD line (length line - 1) 0 ≡ 13 → ⊥) → rest ≡ line

@@ -50,7 +50,7 @@ abbrev pub placed : ℕ → List ℕ → Result (List ℕ) ReplayFault
 placed places ts = cond (leb (length ts) places) (Ok ts) (Err (replay-fault.Refused refusal.TooFewPlaces))
 
 -- the touches of a text for a list of so many places: first its length is judged, then its lines, then the places
-unfoldable pub judged : List ℕ → ℕ → Result (List ℕ) ReplayFault
+abbrev pub judged : List ℕ → ℕ → Result (List ℕ) ReplayFault
 judged text places =
     cond (leb (length text) 32768)
     (and-then (in-replay (judged-lines 1 0 (lines text))) (placed places))

@@ -27,14 +27,22 @@ pub fn read_trace(text: &[u8], keys: &mut [VolumeKey]) -> Result<usize, ReplayFa
     ensures keys { λ _. ⌜ Written (judged (now (text .entry)) (length (now (keys .entry)))) (now (keys .entry)) (now (keys .exit)) ⌝ }
     ensures trace { λ r. ⌜ Reads (now (text .entry)) r (now (keys .entry)) (now (keys .exit)) ⌝ }
 {
+    let count = judge(text, keys.len())?;
+    write_keys(text, keys);
+    Ok(count)
+}
+
+// Judges the text for a list of so many places, and answers how many touches it has.
+fn judge(text: &[u8], places: usize) -> Result<usize, ReplayFault>
+    ensures { λ r. ⌜ r ≡ counted (judged (now (text .entry)) places) ⌝ }
+{
     if text.len() > MAX_TEXT_BYTES {
         return Err(ReplayFault::Refused(Refusal::TraceTooLong));
     }
     let count = count_touches(text)?;
-    if count > keys.len() {
+    if count > places {
         return Err(ReplayFault::Refused(Refusal::TooFewPlaces));
     }
-    write_keys(text, keys);
     Ok(count)
 }
 

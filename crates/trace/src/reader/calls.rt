@@ -5,7 +5,7 @@ ghost use Prim.Native.Nat.{_≤_, _<_};
 ghost use lib.ListN.{length, drop};
 ghost use Rattle.std.specs.Options.{Cases};
 ghost use Rattle.trace.specs.Splits.{lines};
-ghost use Rattle.trace.specs.Reading.{unread, line-of, Advanced, unreturned};
+ghost use Rattle.trace.specs.Reading.{unread, line-of, Advanced, Stripped};
 use super::TraceReader;
 use crate::line::Line;
 use crate::splits::split_once;
@@ -54,7 +54,7 @@ fn first_line(text: &[u8]) -> (&[u8], usize)
 
 // A line that a line feed ended, without the carriage return of its ending.
 fn without_return(line: &[u8]) -> &[u8]
-    ensures { λ r. ⌜ now r ≡ unreturned (now (line .entry)) ⌝ }
+    ensures { λ r. ⌜ Stripped (now (line .entry)) (now r) ⌝ }
 {
     match line {
         [front @ .., b'\r'] => front,

@@ -4,7 +4,7 @@ use Prim.Native.Nat.{_+_}
 use native.Mathlib.Omega.{arith}
 use lib.ListN.{length, drop}
 use Rattle.trace.specs.Splits.{lines}
-use Rattle.trace.proofs.Splitting.{first-fed, first-fed-within, first-last}
+use Rattle.trace.proofs.Splitting.{first-fed, first-fed-within, first-last, stripped-is}
 use Rattle.trace.proofs.reader.calls.first_line.Needs as need
 
 pub returns-in-Some : need.returns-in-Some
@@ -13,7 +13,7 @@ returns-in-Some c =
     let before = c .in-Some .before .now in
     let cut = c .in-Some .ensures tt in
     record {
-      split = first-fed text before _ cut ∙ ap (λ l. l ∷ lines (drop (length before + 1) text)) (sym (c .without-return .ensures));
+      split = first-fed text before _ cut ∙ ap (λ l. l ∷ lines (drop (length before + 1) text)) (sym (stripped-is before _ (c .without-return .ensures)));
       some = omega arith;
       within = first-fed-within text before _ cut;
     }
