@@ -19,7 +19,7 @@ use Rattle.trace.specs.declared.fault.Field.the-variants as field
 use Rattle.trace.specs.declared.fault.FieldFault.{FieldFault}
 use Rattle.trace.specs.declared.fault.LineFault.{LineFault}
 use Rattle.trace.specs.declared.fault.LineFault.the-variants as line-fault
-use Rattle.trace.specs.Splits.{parts}
+use Rattle.trace.specs.Splits.{comma, point, parts}
 use Rattle.trace.specs.Numerals.{numeral}
 
 -- goes on with what was accepted, and stops at the first refusal
@@ -27,6 +27,7 @@ abbrev pub and-then : {T U E : Type 0} → Result T E → (T → Result U E) →
 and-then (Ok x) f = f x
 and-then (Err e) f = Err e
 
+-- the fault of a field of line n
 abbrev pub fault-at : ℕ → Field → Refusal → FieldFault
 fault-at n f r = record { line = n; field = f; refusal = r }
 
@@ -53,6 +54,7 @@ opcode-of [] = None
 opcode-of (b ∷ []) = cond (eqb b 82 || eqb b 114) (Some Read) (cond (eqb b 87 || eqb b 119) (Some Write) None)
 opcode-of (b ∷ c ∷ bs) = None
 
+-- what the opcode field asks for
 abbrev pub opcode-in : ℕ → List ℕ → Result Opcode FieldFault
 opcode-in n bs = okOr (opcode-of bs) (fault-at n field.Opcode refusal.BadOpcode)
 
@@ -63,9 +65,11 @@ stamp-parts (p ∷ []) = isSome (numeral 10 p)
 stamp-parts (p ∷ q ∷ []) = isSome (numeral 10 p) && isSome (numeral 9 q)
 stamp-parts (p ∷ q ∷ r ∷ ps) = false
 
+-- the bytes have the form of a time stamp
 abbrev pub time-stamp : List ℕ → Bool
-time-stamp bs = stamp-parts (parts 46 bs)
+time-stamp bs = stamp-parts (parts point bs)
 
+-- the time stamp field is accepted
 abbrev pub stamp-in : ℕ → List ℕ → Result (Unit {0}) FieldFault
 stamp-in n bs = cond (time-stamp bs) (Ok tt) (Err (fault-at n field.TimeStamp refusal.BadTimeStamp))
 
@@ -91,7 +95,7 @@ in-line (Err e) = Err (line-fault.Field e)
 
 -- the fields stand between commas
 abbrev pub fields : List ℕ → List (List ℕ)
-fields bs = parts 44 bs
+fields bs = parts comma bs
 
 -- what line n asks for
 abbrev pub access-of : ℕ → List ℕ → Result Access LineFault

@@ -19,6 +19,7 @@ field-number field.Size = 3
 field-number field.Opcode = 4
 field-number field.TimeStamp = 5
 
+-- a field's fault is reported by its refusal, line and field
 abbrev pub field-report : FieldFault → Report
 field-report f = record { number = number (f .refusal); line = f .line; field = field-number (f .field) }
 

@@ -11,6 +11,7 @@ use Rattle.std.specs.declared.option.Option.the-variants.{Some, None}
 abbrev pub digit : ℕ → Bool
 digit b = leb 48 b && leb b 57
 
+-- every byte is a digit
 abbrev pub all-digits : List ℕ → Bool
 all-digits [] = true
 all-digits (b ∷ bs) = digit b && all-digits bs
@@ -20,6 +21,7 @@ abbrev pub value-after : ℕ → List ℕ → ℕ
 value-after n [] = n
 value-after n (b ∷ bs) = value-after (n * 10 + (b - 48)) bs
 
+-- the number that digits write
 abbrev pub value : List ℕ → ℕ
 value bs = value-after 0 bs
 

@@ -6,6 +6,22 @@ use Prim.Native.Nat.{ℕ}
 use lib.Dec.{eqb}
 use Rattle.std.specs.shelf.Lists.{All}
 
+-- the byte between the fields of a line
+abbrev pub comma : ℕ
+comma = 44
+
+-- the byte between the two parts of a time stamp
+abbrev pub point : ℕ
+point = 46
+
+-- the byte that ends a line
+abbrev pub line-feed : ℕ
+line-feed = 10
+
+-- the byte that may stand right before a line feed, as part of a line's ending
+abbrev pub carriage-return : ℕ
+carriage-return = 13
+
 -- one byte more in front of the first part
 abbrev pub led : ℕ → List (List ℕ) → List (List ℕ)
 led b [] = (b ∷ []) ∷ []
@@ -19,13 +35,13 @@ parts mark (b ∷ bs) = cond (eqb b mark) ([] ∷ parts mark bs) (led b (parts m
 -- a line feed comes first
 abbrev pub feeds : List ℕ → Bool
 feeds [] = false
-feeds (b ∷ bs) = eqb b 10
+feeds (b ∷ bs) = eqb b line-feed
 
--- the lines without their endings: a carriage return right before a line feed belongs to the ending,
--- and behind the last line feed no line begins unless a byte stands there
+-- the lines without their endings: a line feed ends a line, a carriage return right before it belongs to the ending,
+-- and a line begins only where a byte stands
 abbrev pub lines : List ℕ → List (List ℕ)
 lines [] = []
-lines (b ∷ bs) = cond (eqb b 10) ([] ∷ lines bs) (cond (eqb b 13 && feeds bs) (lines bs) (led b (lines bs)))
+lines (b ∷ bs) = cond (eqb b line-feed) ([] ∷ lines bs) (cond (eqb b carriage-return && feeds bs) (lines bs) (led b (lines bs)))
 
 -- no byte equals the mark
 abbrev pub Lacks : ℕ → List ℕ → Type 0

@@ -66,6 +66,7 @@ abbrev pub accepted : {E : Type 0} → Result (List ℕ) E → List ℕ
 accepted (Ok ts) = ts
 accepted (Err e) = []
 
+-- the touches of a text whose lines are accepted
 abbrev pub touches-in : List ℕ → List ℕ
 touches-in text = accepted (judged-lines 1 0 (lines text))
 

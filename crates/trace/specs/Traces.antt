@@ -10,21 +10,9 @@ use Rattle.std.specs.declared.result.Result.the-variants.{Ok}
 use Rattle.base.specs.Keys.{volume-code}
 use Rattle.base.specs.declared.key.volume.VolumeKey.{VolumeKey}
 use Rattle.trace.specs.declared.fault.ReplayFault.{ReplayFault}
+use Rattle.trace.specs.Splits.{comma, point, line-feed, carriage-return}
 use Rattle.trace.specs.Numerals.{value}
 use Rattle.trace.specs.Touches.{upward}
-
--- the bytes that stand between fields, in a time stamp and at the end of a line
-abbrev pub comma : ℕ
-comma = 44
-
-abbrev pub point : ℕ
-point = 46
-
-abbrev pub line-feed : ℕ
-line-feed = 10
-
-abbrev pub carriage-return : ℕ
-carriage-return = 13
 
 -- one to `most` decimal digits that write n
 pub record Number (most : ℕ) (bs : List ℕ) (n : ℕ) : Type 0 where
@@ -33,6 +21,7 @@ pub record Number (most : ℕ) (bs : List ℕ) (n : ℕ) : Type 0 where
   pub digits : All (λ b. (48 ≤ b) × (b ≤ 57)) bs
   pub writes : value bs ≡ n
 
+-- an opcode is one letter of these four
 pub data OpcodeText : List ℕ → Type 0 where
   upper-r : OpcodeText (codes "R")
   lower-r : OpcodeText (codes "r")
@@ -44,14 +33,16 @@ pub data TimeStamp : List ℕ → Type 0 where
   whole : {bs : List ℕ} {n : ℕ} → Number 10 bs n → TimeStamp bs
   fraction : {bs cs : List ℕ} {n m : ℕ} → Number 10 bs n → Number 9 cs m → TimeStamp (bs ++ (point ∷ cs))
 
--- a line without its ending, and its touches: so many sectors of a unit, upward from the first, of 512 bytes each
+-- a line without its ending, and its touches
 pub record Line (text touches : List ℕ) : Type 0 where
+  -- the five fields, with commas between them
   pub asu : List ℕ
   pub lba : List ℕ
   pub size : List ℕ
   pub opcode : List ℕ
   pub stamp : List ℕ
   pub text-is : text ≡ asu ++ (comma ∷ (lba ++ (comma ∷ (size ++ (comma ∷ (opcode ++ (comma ∷ stamp)))))))
+  -- what the fields say: a unit, its first sector, and a size of 1 to 128 sectors of 512 bytes
   pub unit : ℕ
   pub first : ℕ
   pub sectors : ℕ
@@ -63,7 +54,9 @@ pub record Line (text touches : List ℕ) : Type 0 where
   pub few : sectors ≤ 128
   pub opcode-is : OpcodeText opcode
   pub stamp-is : TimeStamp stamp
+  -- the last sector touched has a number of 32 bits, and so has the first
   pub last : first + sectors ≤ 2 ^ 32
+  -- the sectors upward from the first are touched
   pub touches-are : touches ≡ upward unit first sectors
 
 -- a text and its touches, line by line: the last line may lack its ending
@@ -79,7 +72,7 @@ pub record Within (text : List ℕ) (count places : ℕ) : Type 0 where
   pub few : count ≤ 4096
   pub room : count ≤ places
 
--- reading answers the number of touches exactly for the traces within the limits, and their touches then stand, by their codes, in the first places
+-- Reading accepts exactly the traces within the limits. It answers how many touches they have, and leaves these, by their codes, in the first places.
 pub record Reads (text : List ℕ) (answer : Result ℕ ReplayFault) (before after : List VolumeKey) : Type 0 where
   pub sound : (n : ℕ) → answer ≡ Ok n → Within text n (length before) × Trace text (map volume-code (take n after))
   pub complete : (ts : List ℕ) → Trace text ts → Within text (length ts) (length before) → (answer ≡ Ok (length ts)) × (map volume-code (take (length ts) after) ≡ ts)

@@ -1,4 +1,4 @@
-// What a line of a trace asks for.
+// What a line of a trace asks for. Reads and writes touch their sectors alike.
 
 #[derive(Clone, Copy)]
 pub enum Opcode {

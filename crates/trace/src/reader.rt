@@ -4,7 +4,8 @@ ghost use lib.ListN.{length};
 
 mod calls;
 
-// `place` is where the next line begins, and `line` how many lines were read.
+// `place` is where the next line begins, and `line` how many lines were handed out: no more than the bytes before
+// `place`, so the count always fits.
 #[derive(Clone, Copy)]
 pub struct TraceReader<'a> {
     text: &'a [u8],

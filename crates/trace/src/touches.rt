@@ -73,6 +73,7 @@ fn write_keys(text: &[u8], keys: &mut [VolumeKey])
     let mut reader = TraceReader::new(text);
     let mut count = 0;
     while let Some(line) = reader.next_line() {
+        // Every line was accepted before, so there is an access.
         let access = line.access().unwrap();
         write_touches(access, keys, count);
         count += access.sectors as usize;
