@@ -1,9 +1,8 @@
 -- What an accepted field, and an accepted line, tells. Assumes nothing.
-use mathlib.Core.Path.{_≡_, refl, sym, ap, subst, _∙_}
+use mathlib.Core.Path.{_≡_, refl, ap, subst, _∙_}
 use mathlib.Core.Bool.{Bool, true, false, cond, _&&_}
-use mathlib.Core.Logic.{inl, inr}
-use mathlib.Core.List.{List, [], _∷_}
-use Prim.Native.Nat.{ℕ, _+_, _-_, _*_, _/_, _%_, _≤_, _<_}
+use mathlib.Core.List.{List, []}
+use Prim.Native.Nat.{ℕ, _+_, _-_, _*_, _/_, _%_, _≤_}
 use native.Mathlib.Omega.{arith}
 use lib.Dec.{leb, eqb}
 use lib.ListN.{length, getD}
@@ -12,11 +11,10 @@ use Rattle.std.specs.declared.option.Option.{Option}
 use Rattle.std.specs.declared.option.Option.the-variants.{Some, None}
 use Rattle.std.specs.declared.result.Result.{Result}
 use Rattle.std.specs.declared.result.Result.the-variants.{Ok, Err}
-use Rattle.std.proofs.shelf.Tests.{cases-bool, and-parts, leb-true, eqb-true}
+use Rattle.std.proofs.shelf.Tests.{and-parts, leb-true, eqb-true}
 use Rattle.trace.specs.Numerals.{numeral}
 use Rattle.trace.specs.declared.access.Access.{Access}
 use Rattle.trace.specs.declared.fault.FieldFault.{FieldFault}
-use Rattle.trace.specs.declared.fault.LineFault.{LineFault}
 use Rattle.trace.specs.Accesses.{and-then, at-most, sized, sectors-in, opcode-of, time-stamp, access-in, in-line, fields, access-of}
 
 pub never : {T E : Type 0} {x : T} {e : E} {P : Type 0} → _≡_ {A = Result T E} (Err e) (Ok x) → P

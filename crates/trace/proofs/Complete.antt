@@ -1,19 +1,18 @@
 -- Every trace within the limits is accepted. Assumes nothing.
 use mathlib.Core.Path.{_≡_, refl, sym, ap, subst, _∙_}
-use mathlib.Core.Bool.{Bool, true, false, cond, _&&_, _||_}
+use mathlib.Core.Bool.{true, false, cond, _&&_}
 use mathlib.Core.List.{List, [], _∷_, _++_, append-nil, append-assoc}
 use Prim.Native.Nat.{ℕ, _+_, _-_, _*_, _/_, _%_, _≤_, _<_}
 use native.Mathlib.Omega.{arith}
-use lib.Dec.{eqb, leb}
+use lib.Dec.{eqb}
 use lib.ListN.{length, getD, length-append}
 use Rattle.std.specs.Options.{isSome}
 use Rattle.std.specs.shelf.Lists.{All}
-use Rattle.std.specs.declared.option.Option.{Option}
-use Rattle.std.specs.declared.option.Option.the-variants.{Some, None}
+use Rattle.std.specs.declared.option.Option.the-variants.{Some}
 use Rattle.std.specs.declared.result.Result.{Result}
 use Rattle.std.specs.declared.result.Result.the-variants.{Ok, Err}
 use Rattle.std.proofs.shelf.Elements.{all-append}
-use Rattle.std.proofs.shelf.Tests.{le-leb, eq-eqb, ne-eqb, and-from}
+use Rattle.std.proofs.shelf.Tests.{le-leb}
 use Rattle.std.proofs.shelf.Ways.{tells}
 use Rattle.trace.specs.declared.access.Access.{Access}
 use Rattle.trace.specs.declared.access.Opcode.{Opcode}
@@ -21,7 +20,7 @@ use Rattle.trace.specs.declared.access.Opcode.the-variants.{Read, Write}
 use Rattle.trace.specs.declared.fault.LineFault.{LineFault}
 use Rattle.trace.specs.declared.fault.LineFault.the-variants as line-fault
 use Rattle.trace.specs.Splits.{parts, lines, Lacks}
-use Rattle.trace.specs.Numerals.{digit, all-digits, value, numeral}
+use Rattle.trace.specs.Numerals.{digit, all-digits, numeral}
 use Rattle.trace.specs.Accesses.{opcode-of, time-stamp, access-in, in-line, access-of, sectors-in}
 use Rattle.trace.specs.Touches.{touches, judged-lines}
 use Rattle.trace.specs.Traces.{Number, OpcodeText, upper-r, lower-r, upper-w, lower-w, TimeStamp, whole, fraction, Line, Trace, none, last, fed, returned}

@@ -3,7 +3,7 @@ use mathlib.Core.Path.{_≡_, refl, sym, ap, subst, _∙_}
 use mathlib.Core.Bool.{Bool, true, false, cond, _&&_, _||_}
 use mathlib.Core.Logic.{inl, inr}
 use mathlib.Core.List.{List, [], _∷_, _++_, append-nil}
-use Prim.Native.Nat.{ℕ, _+_, _*_, _≤_, _<_}
+use Prim.Native.Nat.{ℕ, _+_, _*_, _≤_}
 use native.Mathlib.Omega.{arith}
 use lib.Dec.{eqb, leb}
 use lib.ListN.{length, getD, length-append}
@@ -15,9 +15,9 @@ use Rattle.std.specs.declared.result.Result.the-variants.{Ok}
 use Rattle.std.proofs.shelf.Tests.{cases-bool, and-parts, and-right, or-cases, leb-true, eqb-true, false≢true}
 use Rattle.trace.specs.declared.access.Access.{Access}
 use Rattle.trace.specs.declared.access.Opcode.{Opcode}
-use Rattle.trace.specs.Splits.{led, parts, feeds, lines}
+use Rattle.trace.specs.Splits.{led, parts, lines}
 use Rattle.trace.specs.Numerals.{digit, all-digits, value, numeral}
-use Rattle.trace.specs.Accesses.{at-most, opcode-of, stamp-parts, time-stamp, fields, access-of}
+use Rattle.trace.specs.Accesses.{at-most, opcode-of, stamp-parts, fields, access-of}
 use Rattle.trace.specs.Touches.{touches, judged-lines}
 use Rattle.trace.specs.Traces.{Number, OpcodeText, upper-r, lower-r, upper-w, lower-w, TimeStamp, whole, fraction, Line, Trace, none, last, fed, returned}
 use Rattle.trace.proofs.Splitting.{rejoined, rejoined-parts}

@@ -2,8 +2,8 @@
 use mathlib.Core.Path.{_≡_, refl, sym, ap, subst, _∙_}
 use mathlib.Core.List.{List, [], _∷_, _++_, map, append-assoc, append-nil}
 use mathlib.Core.Bool.{true}
-use Prim.Native.Nat.{ℕ, _+_, _-_, _≤_, _<_}
-use native.Mathlib.Nat.{zero-add, add-zero}
+use Prim.Native.Nat.{ℕ, _+_, _-_}
+use native.Mathlib.Nat.{zero-add}
 use native.Mathlib.Omega.{arith}
 use lib.ListN.{length, take, drop, length-append}
 use lib.Seq.{take-add}
@@ -15,7 +15,6 @@ use Rattle.std.proofs.shelf.Tests.{false≢true}
 use Rattle.base.specs.Keys.{volume-code}
 use Rattle.base.specs.declared.key.volume.VolumeKey.{VolumeKey}
 use Rattle.trace.specs.declared.access.Access.{Access}
-use Rattle.trace.specs.declared.fault.LineFault.{LineFault}
 use Rattle.trace.specs.Accesses.{access-of}
 use Rattle.trace.specs.Touches.{touches, judged-lines, accepted, Filled}
 use Rattle.trace.proofs.Accepted.{ok-same}

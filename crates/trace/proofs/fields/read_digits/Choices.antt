@@ -1,5 +1,4 @@
 use mathlib.Core.Path.{_≡_}
-use mathlib.Core.Bool.{_&&_}
 use Prim.Native.Nat.{_<_, _^_}
 use lib.ListN.{drop}
 use Rattle.trace.specs.Numerals.{all-digits, value-after, value}

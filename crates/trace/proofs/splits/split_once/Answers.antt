@@ -1,8 +1,8 @@
 use mathlib.Core.Path.{_≡_, sym, ap, subst, _∙_}
-use mathlib.Core.List.{List, _∷_, _++_}
-use Prim.Native.Nat.{_+_, _-_, _<_}
+use mathlib.Core.List.{_∷_, _++_}
+use Prim.Native.Nat.{_+_, _-_}
 use native.Mathlib.Omega.{arith}
-use lib.ListN.{length, take, drop, getD, take-append-drop}
+use lib.ListN.{take, drop, take-append-drop}
 use Rattle.std.proofs.shelf.Lists.{take-all, take-rest, drop-more}
 use Rattle.std.proofs.shelf.Elements.{all-more}
 use Rattle.trace.specs.Splits.{Lacks}

@@ -1,4 +1,3 @@
-use Prim.Native.Nat.{_+_}
 use lib.ListN.{length}
 use Rattle.trace.specs.Splits.{lines}
 use Rattle.trace.specs.Reading.{unread, line-of}
