@@ -1,0 +1,10 @@
+pub mod Splitting
+pub mod Numerals
+pub mod Stamps
+pub mod Sectors
+pub mod Accepted
+pub mod Judging
+pub mod Writing
+pub mod Sound
+pub mod Complete
+pub mod Exact
