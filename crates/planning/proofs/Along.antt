@@ -1,25 +1,26 @@
 -- MIN's pass over the touches, one after another.
-use mathlib.Core.Path.{_≡_, refl, sym, ap, _∙_}
+use mathlib.Core.Path.{_≡_, refl, sym, ap, subst, _∙_}
 use mathlib.Core.Bool.{Bool, true, false, cond}
 use mathlib.Core.List.{List, [], _∷_, _++_, append-assoc}
 use mathlib.Core.Logic.{_⊎_, inl, inr}
-use Prim.Native.Nat.{ℕ, zero, suc, _+_, _-_, _<_, _≤_}
+use Prim.Native.Nat.{ℕ, zero, suc, _+_, _-_, _<_, _≤_, max}
 use native.Mathlib.Omega.{arith}
 use native.Mathlib.Numerals.{add-one}
+use native.Mathlib.Nat.{zero-add, add-zero}
 use lib.Dec.{eqb, ltb}
 use lib.ListN.{length, getD, set, take, drop}
 use Rattle.std.specs.declared.option.Option.the-variants.{Some, None}
 use Rattle.std.proofs.shelf.Ways.{tells}
-use Rattle.std.proofs.shelf.Tests.{cases-bool, cases-eq, lt-ltb, le-ltb, ltb-true, ltb-false, ne-eqb}
-use Rattle.std.proofs.shelf.Lists.{length-push, length-set, getD-push, getD-append-left, getD-set-same, getD-set-other, drop-more, take-more-set, at-drop-more, at-drop-all, take-all, append-nil}
+use Rattle.std.proofs.shelf.Tests.{cases-bool, cases-eq, cases-lt, lt-ltb, le-ltb, ltb-true, ltb-false, ne-eqb}
+use Rattle.std.proofs.shelf.Lists.{length-push, length-set, getD-push, getD-append-left, getD-set-same, getD-set-other, drop-more, take-more-set, at-drop-more, at-drop-all, take-all, append-nil, drop-drop, drop-set-lt, take-append-drop}
 use Rattle.base.specs.Lists.{member, place-in, Apart}
 use Rattle.policy.specs.Machine.{put}
-use Rattle.index.specs.Maps.{Map}
-use Rattle.planning.specs.Frames.{frame-of, Shows}
+use Rattle.index.specs.Maps.{Map, empty}
+use Rattle.planning.specs.Frames.{frame-of, Shows, Room}
 use Rattle.planning.specs.Minimum.{furthest, min-frame, min-keys, min-serves, min-fetches}
-use Rattle.planning.specs.Chosen.{LowestFurthest, next-of}
+use Rattle.planning.specs.Chosen.{LowestFurthest, Chosen, NextTouch, next-of}
 use Rattle.planning.proofs.Members.{member-getD}
-use Rattle.planning.proofs.Replays.{found-some}
+use Rattle.planning.proofs.Replays.{found-some, found-none}
 use Rattle.planning.proofs.Furthest.{furthest-lowest, furthest-lt, lowest-one}
 use Rattle.policy.proofs.Members.{place-within, getD-place, apart-push, apart-set}
 
@@ -53,10 +54,6 @@ place-of (y ∷ ys) (suc g) p l =
 -- a touch of another key comes one place later
 again-later : (y x i : ℕ) (rest : List ℕ) → eqb y x ≡ false → i + place-in y (x ∷ rest) ≡ i + 1 + place-in y rest
 again-later y x i rest e = rw e (omega arith)
-
--- where the next touch of each touch's key is
-abbrev pub NextTouch : List ℕ → List ℕ → ℕ → Type 0
-NextTouch xs next j = getD next j 0 ≡ j + 1 + place-in (getD xs j 0) (drop (j + 1) xs)
 
 -- What holds before touch i: the lists so far, and for each filled frame where its key is touched again.
 pub record Along (h : ℕ) (xs next hs : List ℕ) (index : Map) (out : List ℕ) (n i : ℕ) : Type 0 where
@@ -189,3 +186,104 @@ module _ (h : ℕ) (xs next hs : List ℕ) (index : Map) (out : List ℕ) (n i :
 
       done-fetch : Along h xs next (set hs f i) index′ (set out i f) (n + cond (member x ks) 0 1) (i + 1) → Along h xs next (set hs f i) index′ (set out i f) (n + 1) (i + 1)
       done-fetch step = rw new at step
+
+-- What holds before touch i, with the frames counted and the places behind as they were.
+pub record Serving-along (h : ℕ) (xs next hs : List ℕ) (index : Map) (places : ℕ) (before out : List ℕ) (n filled i : ℕ) : Type 0 where
+  pub along : Along h xs next hs index out n i
+  pub filled-is : filled ≡ length (min-after h [] xs i)
+  pub slots : index .places ≡ places
+  pub rest : drop i out ≡ drop i before
+  pub held-few : filled ≤ i
+
+pub serving-none : (h : ℕ) (xs next hs : List ℕ) (index : Map) (places : ℕ) (out : List ℕ) → index ≡ empty places → Serving-along h xs next hs index places out out 0 0 0
+serving-none h xs next hs index places out e = record {
+  along = record {
+    serves = refl;
+    fetched = sym (zero-add _);
+    shows = rw e (record { found = λ y. refl; sized = refl; placed = λ f l. absurd (omega arith); holds = λ f l. absurd (omega arith) });
+    apart = tt;
+    few = omega arith;
+    counted = omega arith;
+    again = λ f l. absurd (omega arith);
+  };
+  filled-is = refl;
+  slots = rw e;
+  rest = refl;
+  held-few = omega arith;
+}
+
+module _ (h : ℕ) (xs next hs : List ℕ) (index : Map) (places : ℕ) (before out : List ℕ) (n filled i : ℕ) (s : Serving-along h xs next hs index places before out n filled i)
+    (low : i < length xs) (nexts : NextTouch xs next i) (some : 1 ≤ h) (room : i < length out) (wide : h ≤ length hs) where
+  pub serving-low : (f : ℕ) → index .at (getD xs i 0) ≡ Some f → f < h
+  serving-low f e = omega (arith, found-low h xs next hs index out n i (s .along) low nexts f e, s .along .few)
+
+  pub serving-hit : (f : ℕ) → index .at (getD xs i 0) ≡ Some f → Serving-along h xs next (set hs f i) index places before (set out i f) n filled (i + 1)
+  serving-hit f e =
+      let q = found-some index (min-after h [] xs i) (getD xs i 0) f (s .along .shows .found (getD xs i 0)) e in
+      let same : min-after h [] xs (i + 1) ≡ min-after h [] xs i = after-more h [] xs i low ∙ rw (q .0) in
+      record {
+        along = along-hit h xs next hs index out n i (s .along) low nexts f e room wide;
+        filled-is = rw same (s .filled-is);
+        slots = s .slots;
+        rest = drop-set-lt (i + 1) out i f (omega arith) ∙ behind;
+        held-few = omega (arith, s .held-few);
+      }
+    where
+      behind : drop (i + 1) out ≡ drop (i + 1) before
+      behind = sym (drop-drop 1 i out) ∙ ap (drop 1) (s .rest) ∙ drop-drop 1 i before
+
+  -- the frame that is chosen is MIN's
+  pub chosen-frame : (f : ℕ) → index .at (getD xs i 0) ≡ None → Chosen filled h (next-of next hs) f →
+      f ≡ cond (ltb (length (min-after h [] xs i)) h) (length (min-after h [] xs i)) (furthest (min-after h [] xs i) (drop (i + 1) xs))
+  chosen-frame f e p =
+      let ks = min-after h [] xs i in
+      elim (cases-lt (length ks) h) [
+        | inl l ↦ rw (lt-ltb (length ks) h l) (p .room (omega (arith, s .filled-is)) ∙ s .filled-is)
+        | inr l ↦
+          let full : h ≡ length ks = omega (arith, s .along .few) in
+          rw (le-ltb (length ks) h l) (chosen h xs next hs index out n i (s .along) low nexts f (found-none index ks (getD xs i 0) (s .along .shows .found (getD xs i 0)) e) (omega arith)
+              (subst (λ m. LowestFurthest m (next-of next hs) f) full (p .full (omega (arith, s .filled-is)))))
+      ]
+
+  pub chosen-low : (f : ℕ) → Chosen filled h (next-of next hs) f → (f < h) × (f ≤ filled)
+  chosen-low f p = elim (cases-lt filled h) [
+    | inl l ↦ (omega (arith, p .room l), omega (arith, p .room l))
+    | inr l ↦ (p .full l .within, omega (arith, p .full l .within))
+  ]
+
+  pub serving-room : (f : ℕ) → index .at (getD xs i 0) ≡ None → Chosen filled h (next-of next hs) f → filled < places → Room xs hs index (min-after h [] xs i) f filled i
+  serving-room f e p free = record {
+    shows = s .along .shows;
+    apart = s .along .apart;
+    new = found-none index (min-after h [] xs i) (getD xs i 0) (s .along .shows .found (getD xs i 0)) e;
+    counted = s .filled-is;
+    within = chosen-low f p .1;
+    free = rw (s .slots) free;
+  }
+
+  pub serving-fetch : (f : ℕ) (hs′ : List ℕ) (index′ : Map) → index .at (getD xs i 0) ≡ None → Chosen filled h (next-of next hs) f → hs′ ≡ set hs f i →
+      Shows xs hs′ index′ (put (min-after h [] xs i) f (getD xs i 0)) → index′ .places ≡ index .places →
+      Serving-along h xs next hs′ index′ places before (set out i f) (n + 1) (max filled (f + 1)) (i + 1)
+  serving-fetch f hs′ index′ e p eh sh ep =
+      let ks = min-after h [] xs i in
+      let new = found-none index ks (getD xs i 0) (s .along .shows .found (getD xs i 0)) e in
+      let ef = chosen-frame f e p in
+      rw eh (record {
+        along = along-fetch h xs next hs index out n i (s .along) low nexts f index′ new ef some room wide (rw eh at sh);
+        filled-is = rw (after-more h [] xs i low, new) (elim (cases-lt (length ks) h) [
+          | inl l ↦ rw (lt-ltb (length ks) h l, length-push) (omega (arith, s .filled-is, p .room (omega (arith, s .filled-is))))
+          | inr l ↦ rw (le-ltb (length ks) h l, length-set) (omega (arith, s .filled-is, p .full (omega (arith, s .filled-is)) .within))
+        ]);
+        slots = ep ∙ s .slots;
+        rest = drop-set-lt (i + 1) out i f (omega arith) ∙ sym (drop-drop 1 i out) ∙ ap (drop 1) (s .rest) ∙ drop-drop 1 i before;
+        held-few = omega (arith, s .held-few, chosen-low f p .1);
+      })
+
+pub serving-all : (h : ℕ) (xs next hs : List ℕ) (index : Map) (places : ℕ) (before out : List ℕ) (n filled i : ℕ) → Serving-along h xs next hs index places before out n filled i →
+    length xs ≡ i → i ≤ length out → (n ≡ min-fetches h [] xs) × (out ≡ min-serves h [] xs ++ drop i before)
+serving-all h xs next hs index places before out n filled i s e l =
+    let ks = min-after h [] xs i in
+    let none : min-fetches h ks (drop i xs) ≡ 0 = at-drop-all (min-fetches h ks) xs i (omega arith) in
+    let end : min-serves h ks (drop i xs) ≡ [] = at-drop-all (min-serves h ks) xs i (omega arith) in
+    let front : min-serves h [] xs ≡ take i out = s .along .serves ∙ ap (λ w. take i out ++ w) end ∙ append-nil (take i out) in
+    (omega (arith, s .along .fetched, none), sym (take-append-drop i out) ∙ ap (λ w. w ++ drop i out) (sym front) ∙ ap (λ w. min-serves h [] xs ++ w) (s .rest))

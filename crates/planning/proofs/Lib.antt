@@ -8,5 +8,6 @@ pub mod Servings
 pub mod Fewest
 pub mod Lists
 pub mod Replays
+pub mod Nexts
 pub mod Along
 pub mod Ceilings

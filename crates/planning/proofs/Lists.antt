@@ -1,14 +1,15 @@
 -- How the lists of a replay are judged.
 use mathlib.Core.Path.{_≡_, refl, sym, ap, _∙_}
 use mathlib.Core.Bool.{Bool, true, false, cond, _&&_}
-use mathlib.Core.List.{List}
+use mathlib.Core.List.{List, map}
 use mathlib.Core.Logic.{inl, inr}
-use Prim.Native.Nat.{ℕ, _≤_}
+use Prim.Native.Nat.{ℕ, _<_, _≤_}
 use native.Mathlib.Omega.{arith}
 use lib.Dec.{leb}
-use lib.ListN.{length}
+use lib.ListN.{length, getD}
 use Rattle.std.specs.declared.result.Result.{Result}
 use Rattle.std.specs.declared.result.Result.the-variants.{Ok, Err}
+use Rattle.std.proofs.shelf.Lists.{getD-map}
 use Rattle.std.proofs.shelf.Tests.{cases-bool, and-parts, leb-true}
 use Rattle.base.specs.declared.refusal.Refusal.{Refusal}
 use Rattle.policy.specs.Machine.{Rules, start, fetches}
@@ -22,6 +23,10 @@ same-ok a b h = cc
 
 pub same-err : {A : Type 0} (a b : Refusal) → _≡_ {A = Result A Refusal} (Err a) (Err b) → a ≡ b
 same-err a b h = cc
+
+-- an element's code is the code at its place
+pub code-at : {K : Type 0} (code : K → ℕ) (keys : List K) (i : ℕ) (key : K) → i < length keys → key ≡ getD keys i key → code key ≡ getD (map code keys) i 0
+code-at code keys i key l e = ap code e ∙ sym (getD-map code keys i key 0 l)
 
 -- lists that pass have enough places
 pub record Enough (touches slots k held : ℕ) : Type 0 where

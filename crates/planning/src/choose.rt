@@ -2,11 +2,11 @@
 ghost use mathlib.Core.Path.{_≡_};
 ghost use Prim.Native.Nat.{ℕ, _<_, _≤_};
 ghost use lib.ListN.{length, getD};
-ghost use Rattle.planning.specs.Chosen.{LowestFurthest, next-of};
+ghost use Rattle.planning.specs.Chosen.{LowestFurthest, Chosen, next-of};
 
 // The lowest of the frames whose keys are touched again last. `held` has the latest touch of each frame's key, and `next`
 // for each touch where its key is touched again.
-pub fn furthest_frame(next: &[u32], held: &[u32], frames: usize) -> usize
+fn furthest_frame(next: &[u32], held: &[u32], frames: usize) -> usize
     requires some { ⌜ 1 ≤ frames ⌝ ∗ ⌜ frames ≤ length (now held) ⌝ }
     requires inside { ⌜ ((f : ℕ) → f < frames → getD (now held) f 0 < length (now next)) ⌝ }
     ensures { λ r. ⌜ LowestFurthest frames (next-of (now (next .entry)) (now (held .entry))) r ⌝ }
@@ -21,4 +21,17 @@ pub fn furthest_frame(next: &[u32], held: &[u32], frames: usize) -> usize
         }
     }
     best
+}
+
+// The frame for a fetched key: the lowest empty one, and where none is empty the one that MIN empties.
+pub fn choose_frame(next: &[u32], held: &[u32], filled: usize, frames: usize) -> usize
+    requires some { ⌜ 1 ≤ frames ⌝ ∗ ⌜ frames ≤ length (now held) ⌝ ∗ ⌜ filled ≤ frames ⌝ }
+    requires inside { ⌜ ((f : ℕ) → f < filled → getD (now held) f 0 < length (now next)) ⌝ }
+    ensures { λ r. ⌜ Chosen filled frames (next-of (now (next .entry)) (now (held .entry))) r ⌝ }
+{
+    if filled < frames {
+        filled
+    } else {
+        furthest_frame(next, held, frames)
+    }
 }

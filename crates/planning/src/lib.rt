@@ -1,6 +1,8 @@
-// What a list of touches costs: the replay of a policy.
+// What a list of touches costs: the replay of a policy, and the fewest fetches that any schedule needs.
 mod choose;
 mod hold;
+mod minimum;
+mod next;
 mod plan;
 mod replay;
 

@@ -6,20 +6,16 @@ use lib.ListN.{length, getD, set}
 use Rattle.std.specs.declared.option.Option.the-variants.{Some, None}
 use Rattle.std.specs.declared.result.Result.{Result}
 use Rattle.std.specs.declared.result.Result.the-variants.{Ok, Err}
-use Rattle.std.proofs.shelf.Lists.{getD-map, length-map}
+use Rattle.std.proofs.shelf.Lists.{length-map}
 use Rattle.base.specs.declared.refusal.Refusal.{Refusal}
 use Rattle.index.specs.declared.index.Index.{Index}
 use Rattle.index.specs.Slots.{map-of, number-of, slots-of, Sound}
 use Rattle.policy.specs.Machine.{Rules, Machine}
 use Rattle.planning.specs.Replay.{idle}
-use Rattle.planning.proofs.Lists.{never, same-ok}
+use Rattle.planning.proofs.Lists.{never, same-ok, code-at}
 use Rattle.planning.proofs.Replays.{Replaying, replaying-none, replaying-all, replaying-hit, replaying-fetch, hit-accepted, fetch-room, fetch-below, count-most, held-few}
 use Rattle.planning.proofs.replay.count_fetches.Needs as need
 use Rattle.planning.proofs.replay.count_fetches.Needs.{in-Some·in-Continue-use-frame, in-None·in-Continue-filled}
-
--- an element's code is the code at its place
-code-at : {K : Type 0} (code : K → ℕ) (keys : List K) (i : ℕ) (key : K) → i < length keys → key ≡ getD keys i key → code key ≡ getD (map code keys) i 0
-code-at code keys i key l e = ap code e ∙ sym (getD-map code keys i key 0 l)
 
 -- the state of a turn under the names that its ways share
 joined : {K P Setting State : Type 0} (code spread : K → ℕ) (r : Rules Setting State) (m₀ : Machine State) (xs : List ℕ) (places i : ℕ) (model : P → State)
