@@ -38,14 +38,6 @@ impl<'a, K: Key> Index<'a, K> {
         }
     }
 
-    // Where the key stands, or would stand.
-    fn probe(&self, key: &K) -> Probe
-        requires { ⌜ Sound (K·Key .code) (K·Key .spread) (now self) ⌝ }
-        ensures { λ r. ⌜ Probed (K·Key .code) (K·Key .spread) (slots-of (now (self .entry))) (now (key .entry)) r ⌝ }
-    {
-        look_up(self.slots, key)
-    }
-
     // Stores the number with the key, in place of the one before if there is one.
     pub fn put(&mut self, key: K, number: u32) -> Result<(), Refusal>
         requires { ⌜ Sound (K·Key .code) (K·Key .spread) (now self) ⌝ }
@@ -84,5 +76,13 @@ impl<'a, K: Key> Index<'a, K> {
             }
             _ => None,
         }
+    }
+
+    // Where the key stands, or would stand.
+    fn probe(&self, key: &K) -> Probe
+        requires { ⌜ Sound (K·Key .code) (K·Key .spread) (now self) ⌝ }
+        ensures { λ r. ⌜ Probed (K·Key .code) (K·Key .spread) (slots-of (now (self .entry))) (now (key .entry)) r ⌝ }
+    {
+        look_up(self.slots, key)
     }
 }

@@ -1,5 +1,5 @@
-// Where a key stands, and how a slot is freed. A key is looked for from its home upward, slot by slot
-// and from the last on to the first, up to a free slot.
+// Where a key stands, and how a slot is freed. The way of a key leads from its home upward, slot by slot
+// and from the last on to the first, and ends at its own slot or at a free one.
 ghost use mathlib.Core.Path.{_≡_};
 ghost use Prim.Native.Nat.{_<_};
 ghost use lib.ListN.{length};
@@ -26,6 +26,7 @@ fn home_of<K: Key>(slots: &[Slot<K>], key: &K) -> usize
     key.spread() as usize % slots.len()
 }
 
+// Looks for a key: the slot that holds it, else the first free slot on its way.
 pub fn look_up<K: Key>(slots: &[Slot<K>], key: &K) -> Probe
     requires { ⌜ Reached (K·Key .spread) (now slots) ⌝ }
     ensures { λ r. ⌜ Probed (K·Key .code) (K·Key .spread) (now (slots .entry)) (now (key .entry)) r ⌝ }
@@ -54,8 +55,8 @@ pub fn look_up<K: Key>(slots: &[Slot<K>], key: &K) -> Probe
     }
 }
 
-// Frees a slot, and closes the gap: a later key whose way from its home leads across the free slot moves into it,
-// which frees its own, up to a slot that was free before, or a whole round without a move.
+// Frees a slot, and closes the gap: a later key whose way leads across the free slot moves into it, which frees
+// its own. This ends at a slot that was free before, or in a full table after a whole round without a move.
 pub fn vacate<K: Key>(slots: &mut [Slot<K>], place: usize)
     requires within { ⌜ place < length (now slots) ⌝ }
     requires reached { ⌜ Reached (K·Key .spread) (now slots) ⌝ }
