@@ -11,3 +11,4 @@ pub mod Replays
 pub mod Nexts
 pub mod Along
 pub mod Ceilings
+pub mod Plans

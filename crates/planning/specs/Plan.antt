@@ -31,6 +31,17 @@ enough touches h p = leb touches (p .slots) && (leb touches (p .next) && (leb to
 abbrev pub plan-of : List ℕ → ℕ → ℕ → Plan
 plan-of touches k h = record { ceiling = ceiling k h (min-fetches h [] touches); fetches = min-fetches h [] touches }
 
+-- how planning judges its numbers and lists
+abbrev pub plan-answer : ℕ → ℕ → ℕ → Places → Result (Unit {0}) Refusal
+plan-answer touches k h p =
+    cond (leb 1 k && leb k 64)
+    (cond (leb touches most-touches)
+      (cond (enough touches h p)
+        (cond (leb 1 h && leb h k) (Ok tt) (Err SmallerFrameCount))
+        (Err TooFewPlaces))
+      (Err ListTooLong))
+    (Err FrameCount)
+
 -- Planning judges k, then the list's length, then the places, then h.
 abbrev pub planned : List ℕ → ℕ → ℕ → Places → Result Plan Refusal
 planned touches k h p =

@@ -7,4 +7,6 @@ mod plan;
 mod replay;
 
 pub use plan::Plan;
+pub use plan::ceiling;
+pub use plan::plan_touches;
 pub use replay::replay as replay_keys;

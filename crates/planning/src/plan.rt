@@ -1,4 +1,9 @@
 // What the planner gets: the fewest fetches on the smaller number of frames, and the ceiling made from them.
+mod calls;
+
+pub use calls::ceiling;
+pub use calls::plan_touches;
+
 #[derive(Clone, Copy, PartialEq, Eq, Debug)]
 pub struct Plan {
     pub ceiling: u64,
