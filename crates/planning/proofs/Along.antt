@@ -240,9 +240,9 @@ module _ (h : ℕ) (xs next hs : List ℕ) (index : Map) (places : ℕ) (before 
       elim (cases-lt (length ks) h) [
         | inl l ↦ rw (lt-ltb (length ks) h l) (p .room (omega (arith, s .filled-is)) ∙ s .filled-is)
         | inr l ↦
-          let full : h ≡ length ks = omega (arith, s .along .few) in
-          rw (le-ltb (length ks) h l) (chosen h xs next hs index out n i (s .along) low nexts f (found-none index ks (getD xs i 0) (s .along .shows .found (getD xs i 0)) e) (omega arith)
-              (subst (λ m. LowestFurthest m (next-of next hs) f) full (p .full (omega (arith, s .filled-is)))))
+            let full : h ≡ length ks = omega (arith, s .along .few) in
+            rw (le-ltb (length ks) h l) (chosen h xs next hs index out n i (s .along) low nexts f (found-none index ks (getD xs i 0) (s .along .shows .found (getD xs i 0)) e) (omega arith)
+            (subst (λ m. LowestFurthest m (next-of next hs) f) full (p .full (omega (arith, s .filled-is)))))
       ]
 
   pub chosen-low : (f : ℕ) → Chosen filled h (next-of next hs) f → (f < h) × (f ≤ filled)

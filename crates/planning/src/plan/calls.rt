@@ -31,16 +31,23 @@ pub fn ceiling(frames: u64, smaller: u64, fetches: u64) -> u128
 
 // How many places the lists have that the caller lends.
 #[derive(Clone, Copy)]
-struct Lent {
-    slots: usize,
-    next: usize,
-    held: usize,
-    serving: usize,
+pub struct Lent {
+    pub slots: usize,
+    pub next: usize,
+    pub held: usize,
+    pub serving: usize,
 }
 
 // Refuses, in this order: the frames, the list's length, lists with too few places, the smaller number of frames.
-fn check_plan(touches: usize, frames: usize, smaller: usize, lent: Lent) -> Result<(), Refusal>
-    ensures { λ r. ⌜ r ≡ plan-answer touches frames smaller (record { slots = lent .slots; next = lent .next; held = lent .held; serving = lent .serving }) ⌝ }
+// `held` is how many held-key places are needed.
+pub fn check_plan(
+    touches: usize,
+    frames: usize,
+    smaller: usize,
+    held: usize,
+    lent: Lent,
+) -> Result<(), Refusal>
+    ensures { λ r. ⌜ r ≡ plan-answer touches frames smaller held (record { slots = lent .slots; next = lent .next; held = lent .held; serving = lent .serving }) ⌝ }
 {
     if frames == 0 || frames > 64 {
         return Err(Refusal::FrameCount);
@@ -48,7 +55,7 @@ fn check_plan(touches: usize, frames: usize, smaller: usize, lent: Lent) -> Resu
     if touches > MOST_TOUCHES {
         return Err(Refusal::ListTooLong);
     }
-    if lent.slots < touches || lent.next < touches || lent.serving < touches || lent.held < smaller {
+    if lent.slots < touches || lent.next < touches || lent.serving < touches || lent.held < held {
         return Err(Refusal::TooFewPlaces);
     }
     if smaller == 0 || smaller > frames {
@@ -107,7 +114,7 @@ pub fn plan_touches<K: Key>(
         held: held.len(),
         serving: serving.len(),
     };
-    check_plan(keys.len(), frames, smaller, lent)?;
+    check_plan(keys.len(), frames, smaller, smaller, lent)?;
     find_next(keys, slots, next)?;
     let fetches = run_min(keys, smaller, slots, next, held, serving)?;
     let ceiling = ceiling(frames as u64, smaller as u64, fetches) as u64;

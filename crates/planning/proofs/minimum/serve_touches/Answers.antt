@@ -78,11 +78,11 @@ cast-serving g c =
     let wide : c .args .frames ≤ length (c .loop-place .held) = omega (arith, c .pre .frames, c .loop-place .kept .held) in
     elim (c .match-find .came) [
       | in-Some w ↦
-        let below = serving-low _ _ _ _ _ _ _ _ _ _ _ s low′ (c .pre .next _ low) (c .pre .frames .0) out wide _ (at ∙ sym (w .in-Some .ensures tt)) in
-        omega (arith, w .frame-is, below, c .pre .frames)
+          let below = serving-low _ _ _ _ _ _ _ _ _ _ _ s low′ (c .pre .next _ low) (c .pre .frames .0) out wide _ (at ∙ sym (w .in-Some .ensures tt)) in
+          omega (arith, w .frame-is, below, c .pre .frames)
       | in-None·in-Continue-filled w ↦
-        let below = chosen-low _ _ _ _ _ _ _ _ _ _ _ s low′ (c .pre .next _ low) (c .pre .frames .0) out wide _ (w .choose-frame-frame .ensures) in
-        omega (arith, w .frame-is, below .0, c .pre .frames)
+          let below = chosen-low _ _ _ _ _ _ _ _ _ _ _ s low′ (c .pre .next _ low) (c .pre .frames .0) out wide _ (w .choose-frame-frame .ensures) in
+          omega (arith, w .frame-is, below .0, c .pre .frames)
     ]
 
 pub loop-place-again : need.loop-place-again
@@ -98,17 +98,17 @@ loop-place-again g c =
     let wide : c .args .frames ≤ length (c .loop-place .held) = omega (arith, c .pre .frames, c .loop-place .kept .held) in
     elim (c .match-find .came) [
       | in-Some w ↦
-        joined code (g .K·Key .spread) _ _ _ _ _ _ _ (w .index-is) (w .held-is) (w .fetches-is) (w .filled-is) (w .frame-is)
-            (c .loop-place .inv .0) (serving-hit _ _ _ _ _ _ _ _ _ _ _ s low′ (c .pre .next _ low) (c .pre .frames .0) out wide _ (at ∙ sym (w .in-Some .ensures tt)))
+          joined code (g .K·Key .spread) _ _ _ _ _ _ _ (w .index-is) (w .held-is) (w .fetches-is) (w .filled-is) (w .frame-is)
+          (c .loop-place .inv .0) (serving-hit _ _ _ _ _ _ _ _ _ _ _ s low′ (c .pre .next _ low) (c .pre .frames .0) out wide _ (at ∙ sym (w .in-Some .ensures tt)))
       | in-None·in-Continue-filled w ↦
-        let found = at ∙ sym (w .in-None .ensures tt) in
-        let free : c .loop-place .filled < length (slots-of (c .args .index .now)) = omega (arith, s .held-few, low, c .pre .few) in
-        let room = serving-room _ _ _ _ _ _ _ _ _ _ _ s low′ (c .pre .next _ low) (c .pre .frames .0) out wide _ found (w .choose-frame-frame .ensures) free in
-        let holds = w .hold .ensures .holds _ room in
-        let filled′ = same-ok _ _ (sym (w .in-Continue-filled .was tt) ∙ holds .0) in
-        joined code (g .K·Key .spread) _ _ _ _ _ _ _ (w .index-is) (w .held-is) (w .fetches-is) (w .filled-is ∙ filled′) (w .frame-is)
-            (w .hold .ensures .sound) (serving-fetch _ _ _ _ _ _ _ _ _ _ _ s low′ (c .pre .next _ low) (c .pre .frames .0) out wide _ _ _ found (w .choose-frame-frame .ensures)
-              (w .hold .ensures .held (ap isOk (holds .0))) (holds .1) (w .hold .ensures .places))
+          let found = at ∙ sym (w .in-None .ensures tt) in
+          let free : c .loop-place .filled < length (slots-of (c .args .index .now)) = omega (arith, s .held-few, low, c .pre .few) in
+          let room = serving-room _ _ _ _ _ _ _ _ _ _ _ s low′ (c .pre .next _ low) (c .pre .frames .0) out wide _ found (w .choose-frame-frame .ensures) free in
+          let holds = w .hold .ensures .holds _ room in
+          let filled′ = same-ok _ _ (sym (w .in-Continue-filled .was tt) ∙ holds .0) in
+          joined code (g .K·Key .spread) _ _ _ _ _ _ _ (w .index-is) (w .held-is) (w .fetches-is) (w .filled-is ∙ filled′) (w .frame-is)
+          (w .hold .ensures .sound) (serving-fetch _ _ _ _ _ _ _ _ _ _ _ s low′ (c .pre .next _ low) (c .pre .frames .0) out wide _ _ _ found (w .choose-frame-frame .ensures)
+          (w .hold .ensures .held (ap isOk (holds .0))) (holds .1) (w .hold .ensures .places))
     ]
 
 pub returns : need.returns

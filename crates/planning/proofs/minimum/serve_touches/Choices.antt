@@ -7,4 +7,4 @@ abbrev pub Inv-loop-place : given.InvT-loop-place
 Inv-loop-place g l =
     Sound (g .K·Key .code) (g .K·Key .spread) (l .index) ×
     Serving-along (l .frames) (map (g .K·Key .code) (l .keys)) (l .next) (l .held) (map-of (g .K·Key .code) (l .index)) (map-of (g .K·Key .code) (l .entry .index) .places)
-        (l .entry .serving) (l .serving) (l .fetches) (l .filled) (l .place)
+    (l .entry .serving) (l .serving) (l .fetches) (l .filled) (l .place)

@@ -34,7 +34,7 @@ returns-in-Break-check-plan g c =
     let k = c .args .frames in
     let h = c .args .smaller in
     let p = err-from-errBy (c .from-residual .result) (c .from-residual .ensures .1) in
-    let judged = c .in-Break-check-plan .ensures tt ∙ ap (λ n. plan-answer n k h lent) (sym (length-map (c .args .keys .now) (g .K·Key .code))) in
+    let judged = c .in-Break-check-plan .ensures tt ∙ ap (λ n. plan-answer n k h h lent) (sym (length-map (c .args .keys .now) (g .K·Key .code))) in
     let no-plan : isOk (c .from-residual .result) ≡ false = ap isOk (p .1) in
     record {
       answer = p .1 ∙ ap Err (p .2) ∙ planned-refused touches k h lent _ judged;
@@ -46,7 +46,7 @@ returns-in-Break-check-plan g c =
 pub run-min-requires : need.run-min-requires
 run-min-requires g c κs =
     let lent : Places = record { slots = length (c .args .slots .now); next = length (c .args .next .now); held = length (c .args .held .now); serving = length (c .args .serving .now) } in
-    let p = plan-passed (length (c .args .keys .now)) (c .args .frames) (c .args .smaller) lent (c .in-Continue-check-plan .ensures tt) in
+    let p = plan-passed (length (c .args .keys .now)) (c .args .frames) (c .args .smaller) (c .args .smaller) lent (c .in-Continue-check-plan .ensures tt) in
     record {
       frames = (p .smaller .0, (omega (arith, p .smaller, p .frames), p .held-for));
       few = (p .few, (omega (arith, p .slots-for, c .find-next .kept .slots), (omega (arith, p .next-for, c .find-next .kept .next), p .serving-for)));
@@ -56,7 +56,7 @@ run-min-requires g c κs =
 pub cast-ceiling : need.cast-ceiling
 cast-ceiling g c =
     let lent : Places = record { slots = length (c .args .slots .now); next = length (c .args .next .now); held = length (c .args .held .now); serving = length (c .args .serving .now) } in
-    let p = plan-passed (length (c .args .keys .now)) (c .args .frames) (c .args .smaller) lent (c .in-Continue-check-plan .ensures tt) in
+    let p = plan-passed (length (c .args .keys .now)) (c .args .frames) (c .args .smaller) (c .args .smaller) lent (c .in-Continue-check-plan .ensures tt) in
     let touches = map (g .K·Key .code) (c .args .keys .now) in
     let d = same-ok _ _ (c .in-Continue-fetches .ensures tt .answer) in
     let few : c .in-Continue-fetches .fetches ≤ 4096 = omega (arith, d, min-most (c .args .smaller) [] touches, length-map (c .args .keys .now) (g .K·Key .code), p .few) in
@@ -69,12 +69,12 @@ returns g c =
     let touches = map (g .K·Key .code) keys in
     let k = c .args .frames in
     let h = c .args .smaller in
-    let p = plan-passed (length keys) k h lent (c .in-Continue-check-plan .ensures tt) in
+    let p = plan-passed (length keys) k h h lent (c .in-Continue-check-plan .ensures tt) in
     let d = same-ok _ _ (c .in-Continue-fetches .ensures tt .answer) in
-    let judged = c .in-Continue-check-plan .ensures tt ∙ ap (λ n. plan-answer n k h lent) (sym (length-map keys (g .K·Key .code))) in
+    let judged = c .in-Continue-check-plan .ensures tt ∙ ap (λ n. plan-answer n k h h lent) (sym (length-map keys (g .K·Key .code))) in
     let serves = min-serves h [] touches in
     let front : take (length keys) (c .run-min .last .serving) ≡ serves =
-        ap (take (length keys)) (c .run-min .ensures .serving) ∙ take-at serves (drop (length keys) (c .args .serving .now)) (length keys) (serves-length h [] touches ∙ length-map keys (g .K·Key .code)) in
+    ap (take (length keys)) (c .run-min .ensures .serving) ∙ take-at serves (drop (length keys) (c .args .serving .now)) (length keys) (serves-length h [] touches ∙ length-map keys (g .K·Key .code)) in
     record {
       answer = ap Ok (plan-same _ _ _ k h (c .ceiling-ceiling .ensures) d) ∙ sym (planned-accepted touches k h lent judged);
       serving = c .run-min .ensures .serving;
