@@ -23,6 +23,12 @@ parts-cut mark (b ∷ bs) rest h = rw (ne-eqb b mark (h .0), parts-cut mark bs r
 pub parts-at : {mark : ℕ} {text before behind : List ℕ} → Cut mark text before behind → parts mark text ≡ before ∷ parts mark behind
 parts-at {mark} {text} {before} {behind} h = rw (h .whole) (parts-cut mark before behind (h .first))
 
+pub length-none : (mark : ℕ) (bs : List ℕ) → Lacks mark bs → length (parts mark bs) ≡ 1
+length-none mark bs h = ap length (parts-none mark bs h)
+
+pub length-at : {mark : ℕ} {text before behind : List ℕ} → Cut mark text before behind → length (parts mark text) ≡ suc (length (parts mark behind))
+length-at h = ap length (parts-at h)
+
 led-some : (b : ℕ) (ps : List (List ℕ)) → 0 < length (led b ps)
 led-some b [] = omega arith
 led-some b (p ∷ ps) = omega arith
