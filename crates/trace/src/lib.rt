@@ -17,4 +17,5 @@ pub use fault::ReplayFaultFromRefusal;
 pub use fault::Report;
 pub use fault::ReportDebug;
 pub use fault::ReportPartialEq;
+pub use touches::judge_trace;
 pub use touches::read_trace;

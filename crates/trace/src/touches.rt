@@ -32,6 +32,13 @@ pub fn read_trace(text: &[u8], keys: &mut [VolumeKey]) -> Result<usize, ReplayFa
     Ok(count)
 }
 
+// How many touches a text has, judged for lists of so many places: what a caller asks that lends more lists than the keys.
+pub fn judge_trace(text: &[u8], places: usize) -> Result<usize, ReplayFault>
+    ensures { λ r. ⌜ r ≡ counted (judged (now (text .entry)) places) ⌝ }
+{
+    judge(text, places)
+}
+
 // Judges the text for a list of so many places, and answers how many touches it has.
 fn judge(text: &[u8], places: usize) -> Result<usize, ReplayFault>
     ensures { λ r. ⌜ r ≡ counted (judged (now (text .entry)) places) ⌝ }
