@@ -5,3 +5,4 @@ mod slot;
 
 pub use index::Index;
 pub use slot::Slot;
+pub use slot::SlotClone;
