@@ -1,11 +1,9 @@
 // Reads a trace from standard input. Without arguments it prints the sheet; with two, K and H, the plan for K frames by a schedule on H,
 // beside what each policy fetches on K frames.
-use base::Refusal;
 use base::VolumeKey;
 use base::VolumeKeyKey;
 use index::Slot;
 use index::SlotClone;
-use planning::Forecast;
 use planning::forecast_touches;
 use policy::Clock;
 use policy::ClockPolicy;
@@ -111,13 +109,121 @@ fn print_sheet(rt: &LibcRuntime, text: &[u8], memory: Memory) -> io::Result<()> 
     }
 }
 
-fn main(rt: LibcRuntime) -> Result<(), AnyError> {
+// The fewest fetches of a schedule, the ceiling made from them, and what each policy fetches.
+#[derive(Clone, Copy)]
+struct PlanLine {
+    fewest: u64,
+    ceiling: u64,
+    lru: u64,
+    fifo: u64,
+    clock: u64,
+}
+
+// What each policy fetches on so many frames, with the plan by a schedule on a smaller number of frames.
+fn forecasts(
+    text: &[u8],
+    frames: usize,
+    smaller: usize,
+    memory: Memory,
+) -> Result<PlanLine, ReplayFault> {
+    let Memory {
+        mut keys,
+        mut slots,
+        mut next,
+        mut held,
+        mut serving,
+    } = memory;
+    let touches = read_trace(text, &mut keys)?;
+    let list = &keys[0..touches];
+    let lru = forecast_touches::<Lru, VolumeKey>(
+        (),
+        list,
+        frames,
+        smaller,
+        &mut slots,
+        &mut next,
+        &mut held,
+        &mut serving,
+    )?;
+    let fifo = forecast_touches::<Fifo, VolumeKey>(
+        (),
+        list,
+        frames,
+        smaller,
+        &mut slots,
+        &mut next,
+        &mut held,
+        &mut serving,
+    )?;
+    let clock = forecast_touches::<Clock, VolumeKey>(
+        (),
+        list,
+        frames,
+        smaller,
+        &mut slots,
+        &mut next,
+        &mut held,
+        &mut serving,
+    )?;
+    Ok(PlanLine {
+        fewest: lru.plan.fetches,
+        ceiling: lru.plan.ceiling,
+        lru: lru.fetches,
+        fifo: fifo.fetches,
+        clock: clock.fetches,
+    })
+}
+
+fn print_plan(
+    rt: &LibcRuntime,
+    text: &[u8],
+    frames: usize,
+    smaller: usize,
+    memory: Memory,
+) -> io::Result<()> {
+    match forecasts(text, frames, smaller, memory) {
+        Ok(line) => {
+            let fewest = line.fewest;
+            let ceiling = line.ceiling;
+            let lru = line.lru;
+            let fifo = line.fifo;
+            let clock = line.clock;
+            println!(rt, "frames,smaller,MIN,ceiling,LRU,FIFO,CLOCK")?;
+            println!(rt, "{frames},{smaller},{fewest},{ceiling},{lru},{fifo},{clock}")
+        }
+        Err(fault) => print_fault(rt, fault),
+    }
+}
+
+// The two numbers of the command line, K and H, if there are any.
+fn arguments(rt: &LibcRuntime) -> Result<Option<(usize, usize)>, AnyError> {
+    let mut args = env::args(rt)?;
+    let _ = args.next();
+    let Some(frames) = args.next() else {
+        return Ok(None);
+    };
+    let Some(smaller) = args.next() else {
+        return Err("give both K and H, or neither".into());
+    };
+    Ok(Some((
+        frames.as_str().parse::<usize>()?,
+        smaller.as_str().parse::<usize>()?,
+    )))
+}
+
+fn run(rt: &LibcRuntime) -> Result<(), AnyError> {
     let heap = rt.alloc();
     let mut buffer = vec![in heap; 0u8; MOST_BYTES]?;
-    let len = read_input(&rt, &mut buffer)?;
+    let len = read_input(rt, &mut buffer)?;
     let memory = Memory::new(heap)?;
-    if len <= buffer.len() {
-        print_sheet(&rt, &buffer[0..len], memory)?;
+    let text = &buffer[0..len.min(MOST_BYTES)];
+    match arguments(rt)? {
+        Some((frames, smaller)) => print_plan(rt, text, frames, smaller, memory)?,
+        None => print_sheet(rt, text, memory)?,
     }
     Ok(())
+}
+
+fn main(rt: LibcRuntime) -> Result<(), AnyError> {
+    rt.report(run(&rt))
 }
