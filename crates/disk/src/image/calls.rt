@@ -98,7 +98,8 @@ impl<'a> ImageDisk<'a> {
         ensures after { λ _. ⌜ imaged (now (self .exit)) ≡ after-write (imaged (now (self .entry))) sector (now (buffer .entry)) ⌝ }
         ensures image { λ _. ⌜ now (now (self .exit) .image) ≡ cond (serves (imaged (now (self .entry))) sector (length (now (buffer .entry)))) (image-written (now (now (self .entry) .image)) sector (now (buffer .entry))) (now (now (self .entry) .image)) ⌝ }
     {
-        self.judge(sector, buffer.len())?;
+        let len = buffer.len();
+        self.judge(sector, len)?;
         copy_in(self.image, sector, buffer);
         self.writes = self.writes.saturating_add(1);
         Ok(())

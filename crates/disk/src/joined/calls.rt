@@ -84,10 +84,10 @@ impl<A: Disk, B: Disk> JoinedDisk<A, B> {
         ensures after { λ _. ⌜ joined A·Disk B·Disk (now (self .exit)) ≡ passed-write (joined A·Disk B·Disk (now (self .entry))) sector (now (buffer .entry)) ⌝ }
     {
         let first = self.first.count();
-        if sector < first {
-            return self.first.write(sector, buffer);
+        if sector >= first {
+            return self.second.write(sector - first, buffer);
         }
-        self.second.write(sector - first, buffer)
+        self.first.write(sector, buffer)
     }
 
     pub fn read_sector(&mut self, sector: u32, buffer: &mut [u8]) -> Result<(), Refusal>
