@@ -11,3 +11,5 @@ pub use key::SectorKey;
 pub use key::VolumeKey;
 pub use key::VolumeKeyKey;
 pub use refusal::Refusal;
+pub use refusal::RefusalDebug;
+pub use refusal::RefusalPartialEq;

@@ -18,6 +18,6 @@ pub impl Key for Sector as SectorKey {
     }
 
     fn spread(&self) -> u32 {
-        mix64(self.number as u64)
+        mix64(self.code())
     }
 }

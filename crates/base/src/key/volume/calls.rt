@@ -38,7 +38,6 @@ pub impl Key for VolumeKey as VolumeKeyKey {
     }
 
     fn spread(&self) -> u32 {
-        let code = (self.asu as u64) * 0x1_0000_0000 + self.lba as u64;
-        mix64(code)
+        mix64(self.code())
     }
 }
