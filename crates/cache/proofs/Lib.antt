@@ -1,0 +1,4 @@
+pub mod Keys
+pub mod Stores
+pub mod Joins
+pub mod Views
