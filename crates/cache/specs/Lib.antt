@@ -1,5 +1,8 @@
 pub mod Places
 pub mod View
 pub mod Steps
-pub mod Reading
 pub mod Requests
+pub mod Flush
+pub mod Events
+pub mod Promise
+pub mod Reading
