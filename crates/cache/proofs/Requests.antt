@@ -2,7 +2,11 @@
 use mathlib.Core.Path.{_≡_, refl, sym, ap, _∙_, subst}
 use mathlib.Core.Bool.{Bool, true, false, cond, not, _&&_}
 use mathlib.Core.List.{List, []}
+use mathlib.Core.Logic.{_≢_}
 use Prim.Native.Nat.{ℕ, _<_, _≤_}
+use lib.Dec.{eqb}
+use Rattle.std.proofs.shelf.Tests.{ne-eqb}
+use Rattle.base.specs.declared.refusal.Refusal.the-variants.{BufferLength}
 use native.Mathlib.Omega.{arith}
 use lib.ListN.{length, getD}
 use Rattle.std.specs.declared.result.Result.{Result}
@@ -35,6 +39,29 @@ reading w n = record { below = w .below; policy = w .policy; store = w .store; f
 
 abbrev pub writing : {State : Type 0} → View State → Store → ℕ → View State
 writing w t n = record { below = w .below; policy = w .policy; store = t; fetched = w .fetched; reads = w .reads; writes = n }
+
+-- a request with a buffer of another length
+module _ {Setting State : Type 0} (r : Rules Setting State) (v : View State) (x : ℕ) (b : List ℕ) (short : length b ≢ 512) where
+  off : eqb (length b) 512 ≡ false
+  off = ne-eqb (length b) 512 short
+
+  pub short-answer : _≡_ {A = Result (Unit {0}) Refusal} (Err BufferLength) (answer (seen v) x (length b))
+  short-answer = rw off
+
+  short-serves : serves (seen v) x (length b) ≡ false
+  short-serves = rw off
+
+  pub short-read : seen v ≡ after-read (seen v) x b
+  short-read = rw short-serves
+
+  pub short-fills : b ≡ buffer-read (seen v) x b
+  short-fills = rw short-serves
+
+  pub short-write : seen v ≡ after-write (seen v) x b
+  short-write = rw short-serves
+
+  pub short-turned : Turned r v x (length b) v
+  short-turned = record { pinned = refl; touches = rw short-serves; counts = rw short-serves; below = rw short-serves }
 
 -- A request for x with a buffer b of 512 bytes, to a cache v that a touch makes w.
 pub record Asked {Setting State : Type 0} (r : Rules Setting State) (v w : View State) (x : ℕ) (b : List ℕ) : Type 0 where

@@ -1,6 +1,7 @@
 // A started cache: the disk below, the policy, the places in memory, the fetches since start, and the cache's own tallies.
 use crate::store::Store;
 
+mod calls;
 mod places;
 
 pub struct Cache<D, P> {
