@@ -93,3 +93,10 @@ put-front n f x xs h = elim (cases-lt (n + f) (length xs)) [
   | inl k ↦ rw (lt-ltb (n + f) (length xs) k) (take-set-le n xs (n + f) x (omega arith))
   | inr k ↦ rw (le-ltb (n + f) (length xs) k) (take-append-le n xs (x ∷ []) h)
 ]
+
+-- a key that is not found
+pub found-none : (keys : List ℕ) (x : ℕ) → None ≡ found keys x → member x keys ≡ false
+found-none keys x h = elim (cases-bool (member x keys)) [
+  | inl e ↦ let q = rw e at h in absurd (let z : _≡_ {A = ℕ} 0 1 = cc in omega arith)
+  | inr e ↦ e
+]

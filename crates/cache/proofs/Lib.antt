@@ -6,3 +6,4 @@ pub mod Requests
 pub mod Takings
 pub mod Flushes
 pub mod Promises
+pub mod SetUps

@@ -24,3 +24,11 @@ pub record Flushed {State : Type 0} (v v′ : View State) : Type 0 where
   pub bytes : v′ .below .bytes ≡ seen v .bytes
   pub reads : v′ .below .reads ≡ v .below .reads
   pub writes : v′ .below .writes ≡ raised-by (v .store .dirty) (v .store .used) (v .below .writes)
+
+-- The disk that the end of a cache gives back: it is as a flush leaves it.
+pub record Ended {State : Type 0} (v : View State) (m : Meaning) : Type 0 where
+  pub count : m .count ≡ v .below .count
+  pub dead : m .dead ≡ v .below .dead
+  pub bytes : m .bytes ≡ seen v .bytes
+  pub reads : m .reads ≡ v .below .reads
+  pub writes : m .writes ≡ raised-by (v .store .dirty) (v .store .used) (v .below .writes)

@@ -6,3 +6,5 @@ pub mod Flush
 pub mod Events
 pub mod Promise
 pub mod Reading
+pub mod SetUp
+pub mod Runs

@@ -9,14 +9,30 @@ ghost use Rattle.disk.specs.declared.turn.Request.the-variants.{Read, Write, Fl
 ghost use Rattle.disk.specs.Meaning.{answer, after-read, buffer-read, after-write};
 ghost use Rattle.cache.specs.View.{seen};
 ghost use Rattle.cache.specs.Requests.{Turned};
-ghost use Rattle.cache.specs.Flush.{Flushed};
+ghost use Rattle.cache.specs.Flush.{Flushed, Ended};
 ghost use Rattle.cache.specs.Reading.{view, Safe, Takes, Promised};
 use super::Cache;
+use crate::slip::EndingSlip;
+use crate::store::Store;
 use base::Refusal;
 use disk::Disk;
 use policy::Policy;
 
 impl<D: Disk, P: Policy> Cache<D, P> {
+    pub(crate) fn new(below: D, policy: P, store: Store) -> Cache<D, P>
+        ensures parts { λ r. ⌜ r .below ≡ below ⌝ ∗ ⌜ r .policy ≡ policy ⌝ ∗ ⌜ r .store ≡ store ⌝ }
+        ensures counts { λ r. ⌜ r .fetched ≡ 0 ⌝ ∗ ⌜ r .reads ≡ 0 ⌝ ∗ ⌜ r .writes ≡ 0 ⌝ }
+    {
+        Cache {
+            below,
+            policy,
+            store,
+            fetched: 0,
+            reads: 0,
+            writes: 0,
+        }
+    }
+
     pub fn read_sector(&mut self, sector: u32, buffer: &mut [u8]) -> Result<(), Refusal>
         requires { ⌜ Safe D·Disk P·Policy (now self) ⌝ }
         ensures kept { λ _. ⌜ Safe D·Disk P·Policy (now (self .exit)) ⌝ }
@@ -72,5 +88,26 @@ impl<D: Disk, P: Policy> Cache<D, P> {
         ensures promised { λ r. ⌜ Promised D·Disk P·Policy (now (self .entry)) r ⌝ }
     {
         self.fetched
+    }
+}
+
+impl<D: Disk, P: Policy + Drop> Cache<D, P> {
+    // Takes the slip, flushes, and gives the disk back.
+    pub fn end(mut self, slip: EndingSlip) -> D
+        requires { ⌜ Safe D·Disk P·Policy self ⌝ }
+        ensures under { λ r. ⌜ D·Disk .sound r ⌝ }
+        ensures ended { λ r. ⌜ Ended (view D·Disk P·Policy self) (D·Disk .meaning r) ⌝ }
+    {
+        slip.hand_in();
+        self.flush();
+        let Cache {
+            below,
+            policy: _,
+            store: _,
+            fetched: _,
+            reads: _,
+            writes: _,
+        } = self;
+        below
     }
 }
