@@ -7,3 +7,5 @@ pub mod Takings
 pub mod Flushes
 pub mod Promises
 pub mod SetUps
+pub mod Turnwise
+pub mod Sessions
