@@ -1,20 +1,19 @@
 -- What a flush does, place by place.
 use mathlib.Core.Path.{_≡_, refl, sym, ap, _∙_, fun-ext}
-use mathlib.Core.Bool.{Bool, true, false, cond}
-use mathlib.Core.List.{List, []}
-use mathlib.Core.Logic.{inl, inr, _⊎_, _≢_}
+use mathlib.Core.Bool.{false}
+use mathlib.Core.Logic.{inl, inr, _≢_}
 use Prim.Native.Nat.{ℕ, zero, suc, _+_, _<_, _≤_}
 use native.Mathlib.Omega.{arith}
 use native.Mathlib.Numerals.{add-one}
-use lib.ListN.{length, getD, set}
+use lib.ListN.{getD}
 use Rattle.std.proofs.shelf.Tests.{cases-bool, cases-eq}
 use Rattle.std.proofs.shelf.Lists.{getD-set-same, getD-set-other}
 use Rattle.base.specs.Lists.{member, place-in}
 use Rattle.policy.specs.Machine.{Rules}
 use Rattle.policy.specs.Shape.{Shape}
-use Rattle.disk.specs.Meaning.{Meaning, raised}
+use Rattle.disk.specs.Meaning.{raised}
 use Rattle.cache.specs.Places.{held, pins}
-use Rattle.cache.specs.View.{View, Sound, seen, machine, shown}
+use Rattle.cache.specs.View.{View, Sound, seen, machine}
 use Rattle.cache.specs.Steps.{backed-view}
 use Rattle.cache.specs.Flush.{raised-by, Flushed}
 use Rattle.cache.proofs.Stores.{at-place, cleaned-holds, cleaned-shows}

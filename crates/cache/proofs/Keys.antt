@@ -1,17 +1,16 @@
 -- Where a key stands in a list.
 use mathlib.Core.Path.{_≡_, refl, sym, ap, _∙_}
-use mathlib.Core.Bool.{Bool, true, false, cond, _||_}
+use mathlib.Core.Bool.{true, false, _||_}
 use mathlib.Core.List.{List, [], _∷_, _++_}
-use mathlib.Core.Logic.{inl, inr, _⊎_}
+use mathlib.Core.Logic.{inl, inr}
 use native.Mathlib.Nat.{zero-add}
 use Prim.Native.Nat.{ℕ, zero, suc, _+_, _-_, _<_, _≤_}
 use native.Mathlib.Omega.{arith}
 use lib.Dec.{eqb}
-use lib.ListN.{length, getD, take, drop, set}
+use lib.ListN.{length, getD, take, drop}
 use Rattle.std.proofs.shelf.Tests.{cases-bool, cases-lt, eqb-true, eq-eqb, ne-eqb, lt-ltb, le-ltb, or-parts, or-left, true≢false}
 use Rattle.std.proofs.shelf.Lists.{length-drop, drop-set-add, drop-append-le, take-set-le, take-append-le}
 use Rattle.policy.specs.Machine.{put}
-use Rattle.std.specs.declared.option.Option.{Option}
 use Rattle.std.specs.declared.option.Option.the-variants.{Some, None}
 use Rattle.base.specs.Lists.{member, place-in}
 use Rattle.cache.specs.Places.{found}

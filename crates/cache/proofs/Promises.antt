@@ -1,15 +1,13 @@
 -- What a cache has taken keeps the promise.
-use mathlib.Core.Path.{_≡_, refl, sym, ap, _∙_}
-use mathlib.Core.Bool.{Bool, true, _&&_}
+use mathlib.Core.Path.{_≡_, refl}
+use mathlib.Core.Bool.{true}
 use mathlib.Core.List.{List, []}
-use Prim.Native.Nat.{ℕ, _+_, _-_, _*_, _≤_, min}
+use Prim.Native.Nat.{ℕ, _+_, _-_, _*_, _≤_}
 use native.Mathlib.Nat.{mul-le-mul-left}
 use native.Mathlib.Omega.{arith}
-use lib.Dec.{leb}
 use lib.ListN.{length}
 use Rattle.std.specs.declared.result.Result.the-variants.{Ok}
 use Rattle.std.proofs.shelf.Tests.{le-leb}
-use Rattle.disk.specs.Meaning.{largest-tally}
 use Rattle.policy.specs.Machine.{Rules, start, fetches}
 use Rattle.policy.specs.Law.{Conservative}
 use Rattle.planning.specs.Schedules.{Demand}
@@ -19,7 +17,7 @@ use Rattle.planning.specs.Plan.{Places, enough, plan-of, planned}
 use Rattle.planning.proofs.Ceilings.{min-optimal, competitive, under-ceiling}
 use Rattle.cache.specs.View.{View}
 use Rattle.cache.specs.Events.{Event}
-use Rattle.cache.specs.Promise.{Origin, Taken, Promise, Planned, touches, machine-fetches}
+use Rattle.cache.specs.Promise.{Origin, Taken, Promise, touches, machine-fetches}
 
 -- planning in lists with enough places is not refused
 plan-accepted : (ts : List ℕ) (k h : ℕ) (places : Places) → 1 ≤ k → k ≤ 64 → length ts ≤ most-touches → 1 ≤ h → h ≤ k → enough (length ts) h places ≡ true →
@@ -42,8 +40,8 @@ module _ {Setting State : Type 0} (r : Rules Setting State) (law : Conservative 
       λ h d one fits demand. cut-bound (o .setting) (o .frames) h d (v .fetched) ts one fits demand low in
       record {
         answers = t .answers;
-        last = t .last;
         counts = t .counts;
+        turnwise = t .turnwise;
         bound = bound;
         below = t .asks;
         plans = λ few h one fits places room.

@@ -1,9 +1,9 @@
 -- Requests: a touch, and then the frame's bytes read or written.
-use mathlib.Core.Path.{_≡_, refl, sym, ap, _∙_, subst}
-use mathlib.Core.Bool.{Bool, true, false, cond, not, _&&_}
+use mathlib.Core.Path.{_≡_, refl, sym, ap, _∙_}
+use mathlib.Core.Bool.{true, false}
 use mathlib.Core.List.{List, []}
 use mathlib.Core.Logic.{_≢_}
-use Prim.Native.Nat.{ℕ, _<_, _≤_}
+use Prim.Native.Nat.{ℕ, _<_}
 use lib.Dec.{eqb}
 use Rattle.std.proofs.shelf.Tests.{ne-eqb}
 use Rattle.base.specs.declared.refusal.Refusal.the-variants.{BufferLength}
@@ -13,11 +13,11 @@ use Rattle.std.specs.declared.result.Result.{Result}
 use Rattle.std.specs.declared.result.Result.the-variants.{Ok, Err}
 use Rattle.std.specs.Results.{isOk}
 use Rattle.base.specs.declared.refusal.Refusal.{Refusal}
-use Rattle.disk.specs.Meaning.{Meaning, Sized, answer, serves, raised, read-one, written-one, after-read, buffer-read, after-write}
+use Rattle.disk.specs.Meaning.{answer, serves, raised, read-one, written-one, after-read, buffer-read, after-write}
 use Rattle.policy.specs.Machine.{Rules}
 use Rattle.policy.specs.Shape.{Shape}
 use Rattle.cache.specs.declared.store.Store.{Store}
-use Rattle.cache.specs.Places.{held, pins, stored}
+use Rattle.cache.specs.Places.{pins, stored}
 use Rattle.cache.specs.View.{View, Sound, seen, machine}
 use Rattle.cache.specs.Steps.{touched-view, place-of, with-place}
 use Rattle.cache.specs.Requests.{Turned}

@@ -1,28 +1,26 @@
 -- Caches that are set up: empty, with one sector pinned more, and started.
-use mathlib.Core.Path.{_≡_, refl, sym, ap, _∙_, subst}
-use mathlib.Core.Bool.{Bool, true, false, cond}
+use mathlib.Core.Path.{_≡_, refl, sym, ap, _∙_}
+use mathlib.Core.Bool.{true, false}
 use mathlib.Core.List.{List, [], _∷_, _++_}
 use mathlib.Core.Logic.{inl, inr, _≢_}
 use Prim.Native.Nat.{ℕ, _+_, _<_, _≤_}
 use native.Mathlib.Omega.{arith}
-use lib.Dec.{eqb, ltb}
-use lib.ListN.{length, getD, take, drop, set}
+use lib.Dec.{ltb}
+use lib.ListN.{length, getD, set}
 use Rattle.std.specs.declared.result.Result.{Result}
 use Rattle.std.specs.declared.result.Result.the-variants.{Ok, Err}
-use Rattle.std.specs.declared.option.Option.the-variants.{None, Some}
-use Rattle.std.specs.Results.{isOk}
-use Rattle.std.proofs.shelf.Tests.{cases-bool, cases-eq, eq-eqb, true≢false}
-use Rattle.std.proofs.shelf.Lists.{take-take, take-more-set, drop-all, length-take-le, getD-set-same, getD-set-other}
+use Rattle.std.proofs.shelf.Tests.{cases-eq, eq-eqb, true≢false}
+use Rattle.std.proofs.shelf.Lists.{take-take, take-more-set, drop-all, getD-set-same, getD-set-other}
 use Rattle.base.specs.declared.refusal.Refusal.{Refusal}
 use Rattle.base.specs.declared.refusal.Refusal.the-variants.{AlreadyPinned, PinPlacesTaken}
 use Rattle.base.specs.Lists.{member}
 use Rattle.disk.specs.Meaning.{Meaning, Sized, answer, serves, read-one}
 use Rattle.disk.proofs.Served.{live-served}
-use Rattle.policy.specs.Machine.{Rules, start}
+use Rattle.policy.specs.Machine.{Rules}
 use Rattle.policy.specs.Shape.{first, Shape}
 use Rattle.cache.specs.declared.store.Store.{Store}
-use Rattle.cache.specs.Places.{held, pins, framed, found, installed, pinned-in, Whole}
-use Rattle.cache.specs.View.{View, Sound, Holding, seen, machine}
+use Rattle.cache.specs.Places.{held, pins, framed, pinned-in, Whole}
+use Rattle.cache.specs.View.{View, Sound, Holding, seen}
 use Rattle.cache.specs.Promise.{Taken}
 use Rattle.cache.specs.SetUp.{pin-answer, Pinned}
 use Rattle.cache.proofs.Stores.{held-length, absent-from, installed-holds}
@@ -84,6 +82,7 @@ module _ {Setting State : Type 0} (r : Rules Setting State) (shape : Shape r) wh
       counts = refl;
       last = refl;
       under = refl;
+      turnwise = tt;
       answers = tt;
       asks = tt;
     }

@@ -4,12 +4,11 @@ use mathlib.Core.Bool.{Bool, true, false, cond, not, _&&_, _||_}
 use mathlib.Core.List.{List, [], _∷_, _++_, append-assoc}
 use mathlib.Core.Logic.{inl, inr}
 use Prim.Native.Nat.{ℕ, _+_, _<_, _≤_, min}
-use native.Mathlib.Nat.{zero-add}
 use native.Mathlib.Omega.{arith}
 use lib.Dec.{eqb, ltb}
 use lib.ListN.{length, getD}
 use Rattle.std.specs.declared.result.Result.{Result}
-use Rattle.std.specs.declared.result.Result.the-variants.{Ok, Err}
+use Rattle.std.specs.declared.result.Result.the-variants.{Ok}
 use Rattle.std.specs.Results.{isOk}
 use Rattle.std.proofs.shelf.Tests.{cases-bool, true≢false}
 use Rattle.std.proofs.shelf.Lists.{append-nil}
@@ -19,15 +18,15 @@ use Rattle.disk.specs.declared.turn.Request.{Request}
 use Rattle.disk.specs.declared.turn.Request.the-variants.{Read, Write, Flush}
 use Rattle.disk.specs.Meaning.{Meaning, answer, serves, raised, read-one, written-one, after-read, buffer-read, after-write, largest-tally}
 use Rattle.disk.specs.Turns.{is-read, is-write, answer-request}
-use Rattle.policy.specs.Machine.{Rules, Machine, start, touch, touched, fetches}
+use Rattle.policy.specs.Machine.{Rules, Machine, touch, touched, fetches}
 use Rattle.policy.proofs.Machines.{touched-append, fetches-append}
 use Rattle.cache.specs.Places.{pins, framed}
 use Rattle.cache.specs.View.{View, seen, machine}
 use Rattle.cache.specs.Steps.{next-place}
-use Rattle.cache.specs.Requests.{Turned, touches-frame, misses, fetched-below}
+use Rattle.cache.specs.Requests.{Turned, misses, fetched-below}
 use Rattle.cache.specs.Flush.{Flushed}
-use Rattle.cache.specs.Events.{Event, Each, AsAlone, Asks, Served, nothing, reads, reads-writes, bytes-after, latest-write, write-accepted, read-accepted, touch-of, touches-of, below-after, fetched-after}
-use Rattle.cache.specs.Promise.{Origin, Taken, touches, machine-fetches}
+use Rattle.cache.specs.Events.{Event, Each, AsAlone, Asks, Served, nothing, reads, reads-writes, bytes-after, latest-write, write-accepted, touch-of, touches-of, below-after, fetched-after}
+use Rattle.cache.specs.Promise.{Origin, Taken, Counted, touches, machine-fetches}
 
 -- lists of turns with one more at the end
 pub each-push : (P : List Event → Event → Type 0) (past es : List Event) (e : Event) → Each P past es → P (past ++ es) e → Each P past (es ++ (e ∷ []))
@@ -120,6 +119,8 @@ module _ {Setting State : Type 0} (r : Rules Setting State) where
       let serve : serves (seen v) x len ≡ serves m x len = ap isOk same in
       let pin : member x (pins (v .store)) ≡ member x (o .pinned) = ap (member x) (t .pinned) in
       let b : touching (e .request) (serves (seen v) x len) (member x (pins (v .store))) ≡ touching (e .request) (serves m x len) (member x (o .pinned)) = rw (serve, pin) in
+      let counts : v′ .fetched ≡ min (machine-fetches r o (es ++ (e ∷ []))) largest-tally =
+      rw (touches-push m (o .pinned) es e, ← b) (counts-step _ (machine v) (touches r o es) _ x _ _ (t .frames) (t .counts) (s .counts)) in
       record {
         some = t .some;
         most = t .most;
@@ -128,7 +129,8 @@ module _ {Setting State : Type 0} (r : Rules Setting State) where
         dead = s .dead ∙ t .dead;
         bytes = bytes-step m es e _ _ _ serve (t .bytes) (s .shows);
         frames = rw (touches-push m (o .pinned) es e, ← b) (frames-step _ (machine v) _ (touches r o es) _ x (t .frames) (s .frames));
-        counts = rw (touches-push m (o .pinned) es e, ← b) (counts-step _ (machine v) (touches r o es) _ x _ _ (t .frames) (t .counts) (s .counts));
+        counts = counts;
+        turnwise = each-push (Counted r o) [] es e (t .turnwise) (s .fetched ∙ counts);
         last = sym (fetched-push 0 es e ∙ s .fetched);
         under = sym (below-push m es e ∙ s .below);
         answers = each-push (AsAlone m) [] es e (t .answers) (record {

@@ -1,28 +1,26 @@
 -- Views: each step keeps them sound, and what it does to what they show.
 use mathlib.Core.Path.{_≡_, refl, sym, ap, _∙_, subst}
-use mathlib.Core.Bool.{Bool, true, false, cond, not, _&&_, _||_}
+use mathlib.Core.Bool.{true, false, cond, not, _&&_, _||_}
 use mathlib.Core.List.{List, []}
-use mathlib.Core.Logic.{inl, inr, _⊎_, _≢_}
-use Prim.Native.Nat.{ℕ, suc, _+_, _-_, _<_, _≤_}
+use mathlib.Core.Logic.{inl, inr, _≢_}
+use Prim.Native.Nat.{ℕ, _+_, _-_, _<_, _≤_}
 use native.Mathlib.Omega.{arith}
-use native.Mathlib.Numerals.{add-one}
 use lib.Dec.{eqb, ltb}
-use lib.ListN.{length, getD, set, take, drop}
-use Rattle.std.proofs.shelf.Tests.{cases-bool, cases-lt, eqb-true, eq-eqb, ne-eqb, lt-ltb, le-ltb, ltb-true, ltb-false, or-parts, true≢false}
+use lib.ListN.{length, getD}
+use Rattle.std.proofs.shelf.Tests.{cases-bool, cases-lt, eq-eqb, ne-eqb, lt-ltb, le-ltb, ltb-true, ltb-false, or-parts, true≢false}
 use Rattle.std.proofs.shelf.Lists.{getD-set-same}
 use Rattle.base.specs.Lists.{member, place-in}
 use Rattle.base.specs.declared.refusal.Refusal.{Refusal}
-use Rattle.policy.specs.Machine.{Rules, Machine, put, hit, touch, fetch}
-use Rattle.policy.specs.Shape.{Reached, placed, used, Shape}
-use Rattle.disk.specs.Meaning.{Meaning, Sized, answer, serves, replaced, raised, read-one, written-one}
+use Rattle.policy.specs.Machine.{Rules, put, touch, fetch}
+use Rattle.policy.specs.Shape.{placed, used, Shape}
+use Rattle.disk.specs.Meaning.{Meaning, Sized, answer, serves, raised, written-one}
 use Rattle.disk.proofs.Served.{live-served, answer-live}
-use Rattle.std.specs.declared.option.Option.the-variants.{Some, None}
+use Rattle.std.specs.declared.option.Option.the-variants.{Some}
 use Rattle.std.specs.declared.result.Result.{Result}
-use Rattle.std.specs.declared.result.Result.the-variants.{Ok, Err}
-use Rattle.cache.specs.declared.store.Store.{Store}
-use Rattle.cache.specs.Places.{held, pins, framed, found, installed, cleaned, Whole}
-use Rattle.cache.specs.View.{View, Holding, Placing, Sound, shown, seen, machine}
-use Rattle.cache.specs.Steps.{used-frame, used-view, placed-view, looked-view, backed-view, vacated-view, fetched-view, touched-view, next-place, place-of, with-place}
+use Rattle.std.specs.declared.result.Result.the-variants.{Ok}
+use Rattle.cache.specs.Places.{held, pins, framed, found, installed}
+use Rattle.cache.specs.View.{View, Sound, seen, machine}
+use Rattle.cache.specs.Steps.{used-frame, used-view, placed-view, looked-view, vacated-view, fetched-view, touched-view, next-place, place-of, with-place}
 use Rattle.cache.specs.Requests.{fetched-below}
 use Rattle.cache.proofs.Joins.{serves-live}
 use Rattle.cache.proofs.Keys.{found-some, member-cut, place-front, place-back, put-back, put-front}

@@ -1,6 +1,6 @@
 -- Turns that a cache has taken, and what the disk alone would have done with them. Assumes nothing.
 use mathlib.Core.Path.{_≡_}
-use mathlib.Core.Bool.{Bool, true, false, cond, not, _&&_, _||_}
+use mathlib.Core.Bool.{Bool, true, cond, not, _&&_, _||_}
 use mathlib.Core.List.{List, [], _∷_, _++_}
 use Prim.Native.Nat.{ℕ, _<_, _≤_}
 use lib.Dec.{eqb}
@@ -9,7 +9,7 @@ use Rattle.std.specs.declared.result.Result.{Result}
 use Rattle.base.specs.declared.refusal.Refusal.{Refusal}
 use Rattle.base.specs.Lists.{member}
 use Rattle.disk.specs.declared.turn.Request.{Request}
-use Rattle.disk.specs.declared.turn.Request.the-variants.{Read, Write, Flush}
+use Rattle.disk.specs.declared.turn.Request.the-variants.{Flush}
 use Rattle.disk.specs.Meaning.{Meaning, answer, serves, read-one, written-one, largest-tally}
 use Rattle.disk.specs.Turns.{is-read, is-write, answer-request}
 

@@ -1,7 +1,7 @@
 -- The promise: what holds of all the turns that a cache has taken since its start. Assumes nothing.
 use mathlib.Core.Path.{_≡_}
-use mathlib.Core.Bool.{Bool, true}
-use mathlib.Core.List.{List, []}
+use mathlib.Core.Bool.{true}
+use mathlib.Core.List.{List, [], _∷_, _++_}
 use Prim.Native.Nat.{ℕ, _+_, _-_, _*_, _≤_, min}
 use lib.ListN.{length}
 use Rattle.std.specs.declared.result.Result.the-variants.{Ok}
@@ -40,13 +40,17 @@ module _ {Setting State : Type 0} (r : Rules Setting State) where
   abbrev pub machine-fetches : Origin Setting → List Event → ℕ
   machine-fetches o es = fetches r (start r (o .setting) (o .frames)) (touches o es)
 
+  -- F after a turn is the frame machine's count on the touches up to that turn, cut at the largest value
+  abbrev pub Counted : Origin Setting → List Event → Event → Type 0
+  Counted o past e = e .fetched ≡ min (machine-fetches o (past ++ (e ∷ []))) largest-tally
+
   -- The promise of a cache of k frames that has taken some turns, with F its fetches.
   pub record Promise (o : Origin Setting) (es : List Event) (F : ℕ) : Type 0 where
     -- each turn's answer and buffer are those of the disk alone, and after a flush the disk below holds its bytes
     pub answers : Each (AsAlone (o .disk)) [] es
-    -- F is the count after the last turn, and the frame machine's on the touches, cut at the largest value
-    pub last : F ≡ fetched-after 0 es
+    -- F is the frame machine's fetches on the touches, cut at the largest value, and so it was after each turn
     pub counts : F ≡ min (machine-fetches o es) largest-tally
+    pub turnwise : Each (Counted o) [] es
     -- the bound against every demand schedule on h frames
     pub bound : (h d : ℕ) → 1 ≤ h → h ≤ o .frames → Demand h [] (touches o es) d →
         (o .frames - h + 1) * F ≤ o .frames * d + o .frames * (o .frames - h + 1)
@@ -68,5 +72,6 @@ module _ {Setting State : Type 0} (r : Rules Setting State) where
     pub counts : v .fetched ≡ min (machine-fetches o es) largest-tally
     pub last : v .fetched ≡ fetched-after 0 es
     pub under : v .below ≡ below-after (o .disk) es
+    pub turnwise : Each (Counted o) [] es
     pub answers : Each (AsAlone (o .disk)) [] es
     pub asks : Each (Asks (o .disk)) [] es

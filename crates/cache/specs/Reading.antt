@@ -1,5 +1,4 @@
 -- How a cache is read, the ghost property that its calls need and keep, and the turns that it has taken. Assumes nothing.
-use mathlib.Core.Path.{_≡_}
 use mathlib.Core.List.{List, [], _∷_, _++_}
 use Prim.Native.Nat.{ℕ}
 use Rattle.std.specs.declared.result.Result.{Result}

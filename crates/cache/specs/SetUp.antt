@@ -1,6 +1,6 @@
 -- A cache that is set up: what holds of it, what a pin does, and what it is once started. Assumes nothing.
 use mathlib.Core.Path.{_≡_}
-use mathlib.Core.Bool.{Bool, true, false, cond}
+use mathlib.Core.Bool.{true, false, cond}
 use mathlib.Core.List.{List, [], _∷_, _++_}
 use Prim.Native.Nat.{ℕ, _<_}
 use lib.Dec.{ltb}
@@ -10,7 +10,7 @@ use Rattle.std.specs.declared.result.Result.the-variants.{Ok, Err}
 use Rattle.std.specs.Results.{isOk}
 use Rattle.base.specs.declared.refusal.Refusal.{Refusal}
 use Rattle.base.specs.declared.refusal.Refusal.the-variants.{NoSuchSector, AlreadyPinned, PinPlacesTaken, DeadSector}
-use Rattle.base.specs.Geometries.{frames-of, pins-of}
+use Rattle.base.specs.Geometries.{frames-of}
 use Rattle.base.specs.Lists.{member}
 use Rattle.disk.specs.Meaning.{Meaning, read-one}
 use Rattle.disk.specs.declared.disk.Disk as disks

@@ -1,17 +1,16 @@
 -- What the parts of a turn do to a cache. Assumes nothing.
-use mathlib.Core.Bool.{Bool, true, false, cond}
+use mathlib.Core.Bool.{false, cond}
 use mathlib.Core.List.{List, []}
 use Prim.Native.Nat.{ℕ, _+_, _-_}
 use lib.Dec.{ltb}
-use lib.ListN.{getD, length}
+use lib.ListN.{getD}
 use Rattle.std.specs.declared.result.Result.{Result}
 use Rattle.std.specs.declared.result.Result.the-variants.{Ok, Err}
 use Rattle.base.specs.declared.refusal.Refusal.{Refusal}
-use Rattle.disk.specs.Meaning.{Meaning, raised, serves, answer, read-one, written-one}
+use Rattle.disk.specs.Meaning.{raised, serves, read-one, written-one}
 use Rattle.base.specs.Lists.{member, place-in}
 use Rattle.policy.specs.Machine.{Rules}
-use Rattle.cache.specs.declared.store.Store.{Store}
-use Rattle.cache.specs.Places.{held, stored, installed, cleaned}
+use Rattle.cache.specs.Places.{held, installed, cleaned}
 use Rattle.cache.specs.View.{View}
 
 -- a read served below

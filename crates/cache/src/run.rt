@@ -33,7 +33,10 @@ fn take_turn<D: Disk, P: Policy>(cache: &mut Cache<D, P>, turn: &mut Turn)
 }
 
 // The started cache after the turns, with its slip; the answers and buffers stand in the turns.
-pub fn run_turns<D: Disk, P: Policy>(set_up: SetUpCache<D, P>, turns: &mut [Turn]) -> (Cache<D, P>, EndingSlip)
+pub fn run_turns<D: Disk, P: Policy>(
+    set_up: SetUpCache<D, P>,
+    turns: &mut [Turn],
+) -> (Cache<D, P>, EndingSlip)
     requires { ⌜ Ready D·Disk P·Policy «set_up» ⌝ }
     ensures safe { λ r. ⌜ Safe D·Disk P·Policy (r .0) ⌝ }
     ensures runs { λ r. ⌜ Runs D·Disk P·Policy «set_up» (now (turns .entry)) (now (turns .exit)) (r .0) ⌝ }

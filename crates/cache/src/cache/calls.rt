@@ -83,7 +83,6 @@ impl<D: Disk, P: Policy> Cache<D, P> {
 
     // F: the fetches since start, which stay at their largest value.
     pub fn fetches(&self) -> u64
-        requires { ⌜ Safe D·Disk P·Policy (now self) ⌝ }
         ensures value { λ r. ⌜ r ≡ now (self .entry) .fetched ⌝ }
         ensures promised { λ r. ⌜ Promised D·Disk P·Policy (now (self .entry)) r ⌝ }
     {

@@ -1,4 +1,4 @@
-use mathlib.Core.Path.{_≡_, ap, _∙_}
+use mathlib.Core.Path.{ap, _∙_}
 use Rattle.disk.specs.Meaning.{Meaning}
 use Rattle.cache.specs.View.{View, seen}
 use Rattle.cache.specs.Reading.{view}

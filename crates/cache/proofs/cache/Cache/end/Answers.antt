@@ -1,4 +1,4 @@
-use mathlib.Core.Path.{_≡_, ap}
+use mathlib.Core.Path.{ap}
 use Rattle.disk.specs.Meaning.{Meaning}
 use Rattle.cache.proofs.cache.Cache.end.Needs as need
 

@@ -5,8 +5,7 @@ use Rattle.std.specs.declared.result.Result.the-variants.{Ok}
 use Rattle.std.specs.Results.{isOk}
 use Rattle.disk.specs.Meaning.{answer, serves}
 use Prim.Native.Nat.{_+_}
-use Rattle.cache.specs.View.{View}
-use Rattle.cache.specs.Steps.{vacated-view, with-place, next-place}
+use Rattle.cache.specs.Steps.{vacated-view, next-place}
 use Rattle.cache.specs.Reading.{view}
 use Rattle.cache.proofs.Joins.{with, fetched-is, vacated-used, vacated-room}
 use Rattle.cache.proofs.cache.Cache.fetch.Needs as need

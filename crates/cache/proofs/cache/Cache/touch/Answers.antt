@@ -1,4 +1,4 @@
-use mathlib.Core.Path.{_≡_, refl, sym, subst}
+use mathlib.Core.Path.{sym, subst}
 use Rattle.cache.specs.Reading.{view}
 use Rattle.cache.proofs.Views.{hit-filled, hit-answers, hit-used, hit-pinned}
 use Rattle.cache.proofs.cache.Cache.touch.Needs as need

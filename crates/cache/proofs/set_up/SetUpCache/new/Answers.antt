@@ -1,6 +1,5 @@
-use mathlib.Core.Path.{_≡_, refl, ap}
+use mathlib.Core.Path.{_≡_, refl}
 use mathlib.Core.List.{[]}
-use Prim.Native.Nat.{_<_}
 use native.Mathlib.Omega.{arith}
 use Rattle.base.specs.Geometries.{frames-of}
 use Rattle.cache.specs.Places.{pins}

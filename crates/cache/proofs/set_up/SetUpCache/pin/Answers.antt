@@ -90,7 +90,7 @@ returns g c =
     let ok = sym (c .in-Continue-read .was tt) ∙ c .read .ensures .answers in
     let served : serves m x 512 ≡ true = sym (ap isOk ok) in
     let done = pin-done r (g .P·Policy·met .shape) m _ (s .store) (q .own) (q .unfilled) (q .clean) x (pins-of (s .geometry)) out room served _ _ _
-        (rw served at (c .read .ensures .after)) (c .pin .ensures) (rw served at (c .read .ensures .fills)) (ok ∙ sym is) in
+    (rw served at (c .read .ensures .after)) (c .pin .ensures) (rw served at (c .read .ensures .fills)) (ok ∙ sym is) in
     record {
       kept = record { under = c .read .ensures .kept; own = done .0; setting = q .setting; first = q .first; unfilled = done .2; clean = done .3 };
       geometry = refl;

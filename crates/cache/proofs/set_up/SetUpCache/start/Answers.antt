@@ -1,6 +1,5 @@
-use mathlib.Core.Path.{_≡_, refl, ap, sym, subst, _∙_}
+use mathlib.Core.Path.{_≡_, ap, sym, subst, _∙_}
 use mathlib.Core.List.{[]}
-use Rattle.disk.specs.Meaning.{Meaning}
 use Rattle.base.specs.Geometries.{frames-of}
 use Rattle.cache.specs.View.{View, Sound, seen}
 use Rattle.cache.specs.Promise.{Taken}
