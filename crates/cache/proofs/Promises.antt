@@ -34,7 +34,7 @@ module _ {Setting State : Type 0} (r : Rules Setting State) (law : Conservative 
 
   pub promise-of : (o : Origin Setting) (es : List Event) (v : View State) → Taken r o es v → Promise r o es (v .fetched)
   promise-of o es v t =
-      let ts = touches r o es in
+      let ts = touches o es in
       let low : v .fetched ≤ machine-fetches r o es = omega (arith, t .counts) in
       let bound : (h d : ℕ) → 1 ≤ h → h ≤ o .frames → Demand h [] ts d → (o .frames - h + 1) * v .fetched ≤ o .frames * d + o .frames * (o .frames - h + 1) =
       λ h d one fits demand. cut-bound (o .setting) (o .frames) h d (v .fetched) ts one fits demand low in

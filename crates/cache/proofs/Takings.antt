@@ -120,7 +120,7 @@ module _ {Setting State : Type 0} (r : Rules Setting State) where
       let pin : member x (pins (v .store)) ≡ member x (o .pinned) = ap (member x) (t .pinned) in
       let b : touching (e .request) (serves (seen v) x len) (member x (pins (v .store))) ≡ touching (e .request) (serves m x len) (member x (o .pinned)) = rw (serve, pin) in
       let counts : v′ .fetched ≡ min (machine-fetches r o (es ++ (e ∷ []))) largest-tally =
-      rw (touches-push m (o .pinned) es e, ← b) (counts-step _ (machine v) (touches r o es) _ x _ _ (t .frames) (t .counts) (s .counts)) in
+      rw (touches-push m (o .pinned) es e, ← b) (counts-step _ (machine v) (touches o es) _ x _ _ (t .frames) (t .counts) (s .counts)) in
       record {
         some = t .some;
         most = t .most;
@@ -128,7 +128,7 @@ module _ {Setting State : Type 0} (r : Rules Setting State) where
         count = s .count ∙ t .count;
         dead = s .dead ∙ t .dead;
         bytes = bytes-step m es e _ _ _ serve (t .bytes) (s .shows);
-        frames = rw (touches-push m (o .pinned) es e, ← b) (frames-step _ (machine v) _ (touches r o es) _ x (t .frames) (s .frames));
+        frames = rw (touches-push m (o .pinned) es e, ← b) (frames-step _ (machine v) _ (touches o es) _ x (t .frames) (s .frames));
         counts = counts;
         turnwise = each-push (Counted r o) [] es e (t .turnwise) (s .fetched ∙ counts);
         last = sym (fetched-push 0 es e ∙ s .fetched);

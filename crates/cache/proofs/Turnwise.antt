@@ -1,5 +1,5 @@
 -- A list of turns, one after another.
-use mathlib.Core.Path.{_≡_, refl, _∙_}
+use mathlib.Core.Path.{_≡_, refl, ap, _∙_}
 use mathlib.Core.List.{List, [], _∷_, _++_}
 use Prim.Native.Nat.{ℕ, _+_, _<_, _≤_}
 use native.Mathlib.Omega.{arith}
@@ -9,7 +9,10 @@ use Rattle.disk.specs.declared.turn.Turn.{Turn}
 use Rattle.disk.specs.declared.disk.Disk as disks
 use Rattle.policy.specs.declared.policy.Policy as policies
 use Rattle.cache.specs.declared.cache.Cache.{Cache}
-use Rattle.cache.specs.Events.{Event}
+use Rattle.disk.specs.Meaning.{Meaning}
+use Rattle.disk.specs.Turns.{latest, Answered, AllAnswered}
+use Rattle.std.specs.declared.option.Option.the-variants.{Some}
+use Rattle.cache.specs.Events.{Event, Each, AsAlone, latest-write}
 use Rattle.cache.specs.Promise.{Origin, Taken}
 use Rattle.cache.specs.Reading.{view}
 use Rattle.cache.specs.Runs.{Report, Reported, done, more, TakesTurn}
@@ -17,6 +20,27 @@ use Rattle.cache.specs.Runs.{Report, Reported, done, more, TakesTurn}
 reported-push : {ts ts′ : List Turn} {es : List Event} {t t′ : Turn} {e : Event} → Reported ts ts′ es → Report t t′ e → Reported (ts ++ (t ∷ [])) (ts′ ++ (t′ ∷ [])) (es ++ (e ∷ []))
 reported-push done q = more q done
 reported-push (more p rest) q = more p (reported-push rest q)
+
+-- turns whose events are those of the disk alone are answered as it answers them
+module _ (m : Meaning) where
+  latest-same : {us us′ : List Turn} {es : List Event} → Reported us us′ es → (first : List ℕ) (x : ℕ) → latest m first x us ≡ latest-write m first x es
+  latest-same done first x = refl
+  latest-same (more q rest) first x = rw (q .asked, q .of, q .before) (latest-same rest _ x)
+
+  answered : {us us′ : List Turn} {past : List Event} {t t′ : Turn} {e : Event} → Reported us us′ past → Report t t′ e → AsAlone m past e → Answered m us t t′
+  answered {t = t} p q a =
+      let l = latest-same p (m .bytes (t .sector)) (t .sector) in
+      record {
+        task = q .task;
+        request = q .request;
+        sector = q .sector;
+        bytes = q .after ∙ a .bytes ∙ rw (q .asked, q .of, q .before, ← l);
+        answers = q .answer ∙ ap Some (a .answers ∙ rw (q .asked, q .of, q .before));
+      }
+
+  pub all-alone : {us us′ ts ts′ : List Turn} {past es : List Event} → Reported us us′ past → Reported ts ts′ es → Each (AsAlone m) past es → AllAnswered m us ts ts′
+  all-alone p done a = tt
+  all-alone p (more q rest) a = (answered p q (a .0), all-alone (reported-push p q) rest (a .1))
 
 module _ {D P Setting : Type 0} (d : disks.Ghosts D) (p : policies.Ghosts P Setting) where
   -- what holds once a cache, at first c₀, has taken i turns of the list us, which is now ts

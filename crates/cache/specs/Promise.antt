@@ -32,11 +32,12 @@ pub record Planned (touches : List ℕ) (k h : ℕ) (places : Places) (F : ℕ) 
   pub ceiling-is : plan .ceiling ≡ ceiling k h (plan .fetches)
   pub most : F ≤ plan .ceiling
 
-module _ {Setting State : Type 0} (r : Rules Setting State) where
-  -- the touches of some turns, and the fetches that the frame machine makes on them
-  abbrev pub touches : Origin Setting → List Event → List ℕ
-  touches o es = touches-of (o .disk) (o .pinned) es
+-- the touches of some turns
+abbrev pub touches : {Setting : Type 0} → Origin Setting → List Event → List ℕ
+touches o es = touches-of (o .disk) (o .pinned) es
 
+module _ {Setting State : Type 0} (r : Rules Setting State) where
+  -- the fetches that the frame machine makes on the touches
   abbrev pub machine-fetches : Origin Setting → List Event → ℕ
   machine-fetches o es = fetches r (start r (o .setting) (o .frames)) (touches o es)
 

@@ -4,6 +4,7 @@ use mathlib.Core.List.{List, [], _∷_, _++_}
 use Rattle.std.specs.Of.Vec.{vec-items}
 use Rattle.std.specs.declared.option.Option.the-variants.{Some}
 use Rattle.disk.specs.declared.turn.Turn.{Turn}
+use Rattle.disk.specs.Turns.{AllAnswered}
 use Rattle.disk.specs.declared.disk.Disk as disks
 use Rattle.policy.specs.declared.policy.Policy as policies
 use Rattle.cache.specs.declared.set_up.SetUpCache.{SetUpCache}
@@ -40,6 +41,8 @@ module _ {D P Setting : Type 0} (d : disks.Ghosts D) (p : policies.Ghosts P Sett
   pub record Ran (s : SetUpCache D P) (setting : Setting) (ts ts′ : List Turn) (c : Cache D P) : Type 0 where
     pub events : List Event
     pub reported : Reported ts ts′ events
+    -- the answers and buffers are those that the disk alone gives to the list
+    pub alone : AllAnswered (d .meaning (s .below)) [] ts ts′
     pub taken : Taken (p .rules) (origin d p s setting) events (view d p c)
     pub promise : Promise (p .rules) (origin d p s setting) events (c .fetched)
 

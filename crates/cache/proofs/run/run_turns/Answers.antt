@@ -4,8 +4,9 @@ use native.Mathlib.Omega.{arith}
 use lib.ListN.{length}
 use Rattle.cache.specs.Reading.{view}
 use Rattle.cache.specs.SetUp.{origin}
+use Rattle.cache.specs.Runs.{done}
 use Rattle.cache.proofs.Promises.{promise-of}
-use Rattle.cache.proofs.Turnwise.{taking-none, taking-more, taking-all}
+use Rattle.cache.proofs.Turnwise.{taking-none, taking-more, taking-all, all-alone}
 use Rattle.cache.proofs.run.run_turns.Needs as need
 
 pub take-turn-requires : need.take-turn-requires
@@ -27,6 +28,7 @@ returns g c =
     let p = g .P·Policy in
     let h : length (c .args .turns .now) ≤ c .loop-i .i = omega arith in
     let q = c .loop-i .inv .1 in
+    let all = taking-all d p _ _ _ _ _ q h in
     record {
       safe = c .loop-i .inv .0;
       runs = λ setting first.
@@ -34,7 +36,8 @@ returns g c =
           let t = q .takes o (c .start-cache .ensures .begins .taken setting first) in
           record {
             events = q .events;
-            reported = taking-all d p _ _ _ _ _ q h;
+            reported = all;
+            alone = all-alone (o .disk) done all (t .answers);
             taken = t;
             promise = promise-of (p .rules) (g .P·Policy·met .conservative) o (q .events) (view d p (c .loop-i .cache)) t;
           };
