@@ -5,6 +5,9 @@ ghost use Rattle.cases.specs.Worked.{anomaly, examples, Agree};
 #[cfg(test)]
 mod base_cases;
 
+#[cfg(test)]
+mod trace_cases;
+
 // The list of touches of most examples. On it FIFO fetches more often with four frames than with three.
 pub fn anomaly_touches() -> [u32; 12]
     ensures list { λ r. ⌜ r ≡ anomaly ⌝ }
