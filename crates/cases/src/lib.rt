@@ -8,6 +8,9 @@ mod base_cases;
 #[cfg(test)]
 mod trace_cases;
 
+#[cfg(test)]
+mod trace_limits;
+
 // The list of touches of most examples. On it FIFO fetches more often with four frames than with three.
 pub fn anomaly_touches() -> [u32; 12]
     ensures list { λ r. ⌜ r ≡ anomaly ⌝ }
