@@ -6,6 +6,18 @@ ghost use Rattle.cases.specs.Worked.{anomaly, examples, Agree};
 mod base_cases;
 
 #[cfg(test)]
+mod helpers;
+
+#[cfg(test)]
+mod index_cases;
+
+#[cfg(test)]
+mod index_model;
+
+#[cfg(test)]
+mod policy_cases;
+
+#[cfg(test)]
 mod trace_cases;
 
 #[cfg(test)]
