@@ -22,7 +22,9 @@ struct Random {
 
 impl Random {
     fn next(&mut self) -> u64 {
-        self.state = self.state.wrapping_mul(6364136223846793005).wrapping_add(1442695040888963407);
+        self.state = self.state
+            .wrapping_mul(6364136223846793005)
+            .wrapping_add(1442695040888963407);
         self.state
     }
 }
@@ -79,7 +81,11 @@ fn compare<K: Key>(
     check(place < model.len() && place < keys.len())?;
     let key = keys[place];
     let has_room = count(model) < SLOTS;
-    let stored = if (random >> 60) % 4 == 0 { None } else { Some(number) };
+    let stored = if (random >> 60) % 4 == 0 {
+        None
+    } else {
+        Some(number)
+    };
     let mut held = model[place];
     check_eq(index.find(&key), held)?;
     let refused = change(index, &mut held, key, stored, has_room)?;
@@ -110,9 +116,14 @@ fn count_refused<K: Key>(
 fn sectors_agree_with_a_list(rt: LibcRuntime) -> Result<(), Fail> {
     let mut keys = Vec::new(rt.alloc());
     for number in 0..KEYS {
-        keys.push(Sector { number: number as u32 })?;
+        keys.push(Sector {
+            number: number as u32,
+        })?;
     }
-    check_eq(count_refused(&mut [Slot::Free; SLOTS], &mut [None; KEYS], &keys)?, 168)
+    check_eq(
+        count_refused(&mut [Slot::Free; SLOTS], &mut [None; KEYS], &keys)?,
+        168,
+    )
 }
 
 #[test]
@@ -121,5 +132,8 @@ fn volume_keys_agree_with_a_list(rt: LibcRuntime) -> Result<(), Fail> {
     for number in 0..KEYS {
         keys.push(VolumeKey::new((number % 3) as u8, (number / 3) as u32))?;
     }
-    check_eq(count_refused(&mut [Slot::Free; SLOTS], &mut [None; KEYS], &keys)?, 168)
+    check_eq(
+        count_refused(&mut [Slot::Free; SLOTS], &mut [None; KEYS], &keys)?,
+        168,
+    )
 }

@@ -4,22 +4,20 @@ ghost use Rattle.cases.specs.Worked.{anomaly, examples, Agree};
 
 #[cfg(test)]
 mod base_cases;
-
 #[cfg(test)]
 mod helpers;
-
 #[cfg(test)]
 mod index_cases;
-
 #[cfg(test)]
 mod index_model;
-
+#[cfg(test)]
+mod planning_counts;
+#[cfg(test)]
+mod planning_limits;
 #[cfg(test)]
 mod policy_cases;
-
 #[cfg(test)]
 mod trace_cases;
-
 #[cfg(test)]
 mod trace_limits;
 

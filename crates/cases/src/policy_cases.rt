@@ -4,7 +4,6 @@ use crate::helpers::*;
 use base::Sector;
 use base::SectorKey;
 use index::Slot;
-use planning::replay_keys;
 use policy::Clock;
 use policy::ClockPolicy;
 use policy::Fifo;
@@ -53,24 +52,6 @@ fn full_places_follow_the_rules() -> Result<(), Fail> {
     check_places(&mut Clock::new((), &geometry), [0, 2, 1])
 }
 
-// The fetches of a replay, or the number of a refusal.
-fn fetches_of<P: Policy + Drop>(
-    setting: P::Setting,
-    frames: usize,
-    keys: &[Sector],
-) -> Result<u64, Fail>
-where
-    P::Setting: Drop,
-{
-    let geometry = geometry_of(frames)?;
-    let mut slots = [Slot::Free; 12];
-    let mut held = [0; 64];
-    match replay_keys::<P, Sector>(setting, &geometry, keys, &mut slots, &mut held) {
-        Ok(fetches) => Ok(fetches),
-        Err(refusal) => Err(Fail::new(refusal.number())),
-    }
-}
-
 // The fetches of LRU, FIFO and CLOCK on so many frames.
 const COUNTS: [(usize, [u64; 3]); 6] = [
     (1, [12, 12, 12]),
@@ -85,10 +66,8 @@ const COUNTS: [(usize, [u64; 3]); 6] = [
 fn replays_count_fetches(rt: LibcRuntime) -> Result<(), Fail> {
     let keys = sectors_of(rt.alloc(), &anomaly_touches())?;
     for (frames, expected) in &COUNTS {
-        let lru = fetches_of::<Lru>((), *frames, &keys)?;
-        let fifo = fetches_of::<Fifo>((), *frames, &keys)?;
-        let clock = fetches_of::<Clock>((), *frames, &keys)?;
-        check_eq([lru, fifo, clock], *expected)?;
+        let counts = counts_of(*frames, &keys, &mut [Slot::Free; 12])?;
+        check_eq(counts, *expected)?;
     }
     Ok(())
 }
