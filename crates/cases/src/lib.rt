@@ -5,11 +5,17 @@ ghost use Rattle.cases.specs.Worked.{anomaly, examples, Agree};
 #[cfg(test)]
 mod base_cases;
 #[cfg(test)]
+mod disk_helpers;
+#[cfg(test)]
 mod helpers;
+#[cfg(test)]
+mod image_cases;
 #[cfg(test)]
 mod index_cases;
 #[cfg(test)]
 mod index_model;
+#[cfg(test)]
+mod join_cases;
 #[cfg(test)]
 mod planning_counts;
 #[cfg(test)]
@@ -20,6 +26,8 @@ mod policy_cases;
 mod trace_cases;
 #[cfg(test)]
 mod trace_limits;
+#[cfg(test)]
+mod turn_cases;
 
 // The list of touches of most examples. On it FIFO fetches more often with four frames than with three.
 pub fn anomaly_touches() -> [u32; 12]
