@@ -1,4 +1,4 @@
--- Requests: a touch, and then the frame's bytes read or written.
+-- Requests: an access, and then the place's bytes read or written.
 use mathlib.Core.Path.{_≡_, refl, sym, ap, _∙_}
 use mathlib.Core.Bool.{true, false}
 use mathlib.Core.List.{List, []}
@@ -24,7 +24,7 @@ use Rattle.cache.specs.Requests.{Turned}
 use Rattle.cache.proofs.Stores.{HeldAt, shown-held, stored-holds, stored-shows}
 use Rattle.cache.proofs.Views.{Touched, touched-facts, used-72}
 
--- what an answer with a frame was
+-- what an answer with a place was
 pub with-ok : (a : Result (Unit {0}) Refusal) (f g : ℕ) → Ok f ≡ with-place a g → (a ≡ Ok tt) × (f ≡ g)
 with-ok (Ok u) f g h = (refl, cc)
 with-ok (Err e) f g h = absurd (let z : _≡_ {A = ℕ} 0 1 = cc in omega arith)
@@ -103,7 +103,7 @@ module _ {Setting State : Type 0} {r : Rules Setting State} {v w : View State} {
     pub refused-write : seen w ≡ after-write (seen v) x b
     refused-write = rw refused-serves (touched-is .shows)
 
-  -- one that was accepted, with the frame f
+  -- one that was accepted, with the place f
   module _ (f : ℕ) (accepted : Ok f ≡ with-place (answer (v .below) x 512) (place-of r v x)) where
     pub accepted-answer : _≡_ {A = Result (Unit {0}) Refusal} (Ok tt) (answer (seen v) x (length b))
     accepted-answer = rw (q .long) (sym (with-ok (answer (v .below) x 512) f (place-of r v x) accepted .0))

@@ -17,11 +17,11 @@ use Rattle.cache.specs.Places.{held, stored, installed, cleaned, Whole}
 use Rattle.cache.specs.View.{Holding, shown}
 use Rattle.cache.proofs.Keys.{place-below, place-getD, never-at, member-at}
 
--- no frame of a store holds a sector
+-- no place of a store holds a sector
 abbrev pub Absent : Store → ℕ → Type 0
 Absent s x = (i : ℕ) → i < s .used → getD (s .sectors) i 0 ≡ x → ⊥
 
--- a frame of it does
+-- a place of it does
 abbrev pub HeldAt : Store → ℕ → ℕ → Type 0
 HeldAt s x i = (i < s .used) × (getD (s .sectors) i 0 ≡ x)
 
@@ -58,7 +58,7 @@ module _ (s : Store) (whole : Whole s) (most : s .used ≤ 72) where
   shown-absent bytes x none = rw (not-member x none)
 
   module _ {count : ℕ} {dead : ℕ → Bool} {bytes : ℕ → List ℕ} (h : Holding count dead bytes s) where
-    -- what is shown of one that frame i holds
+    -- what is shown of one that place i holds
     pub place-is : (x i : ℕ) → HeldAt s x i → place-in x (held s) ≡ i
     place-is x i at =
         let p = at-place x (member-from x i at) in h .apart (place-in x (held s)) i (p .0) (at .0) (p .1 ∙ sym (at .1))
@@ -81,7 +81,7 @@ take-set-within (suc n) (x ∷ xs) zero y = refl
 take-set-within (suc n) (x ∷ xs) (suc i) y = ap (λ t. x ∷ t) (take-set-within n xs i y)
 
 module _ {count : ℕ} {dead : ℕ → Bool} {bytes : ℕ → List ℕ} (s : Store) (most : s .used ≤ 72) (h : Holding count dead bytes s) (f : ℕ) (low : f < s .used) where
-  -- a frame written below and marked clean
+  -- a place written below and marked clean
   pub cleaned-holds : Holding count dead (replaced bytes (getD (s .sectors) f 0) (getD (s .blocks) f [])) (cleaned s f)
   cleaned-holds = record {
     whole = record { sectors = h .whole .sectors; dirty = length-set (s .dirty) f false ∙ h .whole .dirty; blocks = h .whole .blocks };
@@ -101,7 +101,7 @@ module _ {count : ℕ} {dead : ℕ → Bool} {bytes : ℕ → List ℕ} (s : Sto
     | inr e ↦ rw e (replaced-other bytes _ x _ (λ k. absent-from s (h .whole) most x e f low (sym k)))
   ])
 
-  -- a frame with the bytes of a buffer
+  -- a place with the bytes of a buffer
   pub stored-holds : (b : List ℕ) → length b ≡ 512 → Holding count dead bytes (stored s f b)
   stored-holds b long = record {
     whole = record { sectors = h .whole .sectors; dirty = length-set (s .dirty) f true ∙ h .whole .dirty; blocks = length-set (s .blocks) f b ∙ h .whole .blocks };
@@ -204,7 +204,7 @@ module _ {count : ℕ} {dead : ℕ → Bool} {bytes : ℕ → List ℕ} (s : Sto
     ];
   }
 
-  -- where the frame was clean, nothing that is shown changes
+  -- where the place was clean, nothing that is shown changes
   pub installed-shows : (f < s .used → getD (s .dirty) f false ≡ false) → Holding count dead bytes (installed s f x (bytes x)) →
       shown (installed s f x (bytes x)) bytes ≡ shown s bytes
   installed-shows clean h′ = fun-ext (λ y. elim (cases-held s (h .whole) most y) [
@@ -226,7 +226,7 @@ module _ {count : ℕ} {dead : ℕ → Bool} {bytes : ℕ → List ℕ} (s : Sto
       t : Store
       t = installed s f x (bytes x)
 
-      -- what frame f held is held no more
+      -- what place f held is held no more
       gone : (y i : ℕ) → HeldAt s y i → i ≡ f → Absent (installed s f x (bytes x)) y
       gone y i at e j k q = elim (cases-eq j f) [
         | inl p ↦ none i (at .0) (at .1 ∙ sym q ∙ ap (λ w. getD (set (s .sectors) f x) w 0) p ∙ sector-f)
