@@ -71,8 +71,9 @@ impl<D: Disk, P: Policy> Cache<D, P> {
 
     // Tells the policy of a hit. A frame that holds a sector is filled, so the use is never refused.
     fn use_frame(&mut self, frame: usize)
-        requires { ⌜ frame < P·Policy .rules .filled (P·Policy .model (now self .policy)) ⌝ }
-        ensures under { λ _. ⌜ now (self .exit) .below ≡ now (self .entry) .below ⌝ }
+        requires filled { ⌜ frame < P·Policy .rules .filled (P·Policy .model (now self .policy)) ⌝ }
+        requires under { ⌜ D·Disk .sound (now self .below) ⌝ }
+        ensures under { λ _. ⌜ D·Disk .sound (now (self .exit) .below) ⌝ }
         ensures after { λ _. ⌜ view D·Disk P·Policy (now (self .exit)) ≡ used-frame (P·Policy .rules) (view D·Disk P·Policy (now (self .entry))) frame ⌝ }
     {
         match self.policy.use_frame(frame) {
