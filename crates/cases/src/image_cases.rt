@@ -47,13 +47,17 @@ fn check_served<D: Disk>(heap: Global, disk: &mut D) -> Result<(), Fail>
     check_eq(served(disk), (2, 2))
 }
 
+fn check_disk(heap: Global, image: &mut [u8]) -> Result<(), Fail> {
+    let mut disk = ImageDisk::new(image, &[9, 2, 4, 2]);
+    check_eq(disk.count(), 4)?;
+    check_refusals(heap, &mut disk)?;
+    check_served(heap, &mut disk)
+}
+
 #[test]
 fn images_are_read_and_written(rt: LibcRuntime) -> Result<(), Fail> {
     let mut image = image_of(rt.alloc(), 4 * 512 + 7)?;
-    let mut disk = ImageDisk::new(&mut image, &[9, 2, 4, 2]);
-    check_eq(disk.count(), 4)?;
-    check_refusals(rt.alloc(), &mut disk)?;
-    check_served(rt.alloc(), &mut disk)?;
+    check_disk(rt.alloc(), &mut image)?;
     check_eq([byte_in(&image, 0)?, byte_in(&image, 1)?], [10, 99])?;
     check_eq([byte_in(&image, 2)?, byte_in(&image, 3)?], [12, 98])?;
     check_eq((image.len(), byte_in(&image, 4)?), (4 * 512 + 7, 14))

@@ -26,26 +26,30 @@ fn check_calls<D: Disk>(heap: Global, disk: &mut D) -> Result<(), Fail>
     check_eq(served(disk), (3, 2))
 }
 
-#[test]
-fn joins_join(rt: LibcRuntime) -> Result<(), Fail> {
-    let heap = rt.alloc();
-    let mut one = image_of(heap, 512)?;
-    let mut two = image_of(heap, 1024)?;
-    let mut none = image_of(heap, 511)?;
-    let mut dead = image_of(heap, 512)?;
-    let left = JoinedDisk::new(ImageDisk::new(&mut one, &[]), ImageDisk::new(&mut two, &[]));
-    let right = JoinedDisk::new(
-        ImageDisk::new(&mut none, &[]),
-        ImageDisk::new(&mut dead, &[0]),
-    );
+// Joins two joins: an image of one sector and one of two, and an image of none and one of a dead sector.
+fn check_join(
+    heap: Global,
+    one: &mut [u8],
+    two: &mut [u8],
+    none: &mut [u8],
+    dead: &mut [u8],
+) -> Result<(), Fail> {
+    let left = JoinedDisk::new(ImageDisk::new(one, &[]), ImageDisk::new(two, &[]));
+    let right = JoinedDisk::new(ImageDisk::new(none, &[]), ImageDisk::new(dead, &[0]));
     let mut all = JoinedDisk::new(left, right);
     check_calls(heap, &mut all)?;
     let (left, right) = all.into_parts();
     check_eq((served(&left), served(&right)), ((3, 2), (0, 0)))?;
     let (first, second) = left.into_parts();
-    check_eq((served(&first), served(&second)), ((0, 1), (3, 1)))?;
-    drop(first);
-    drop(second);
+    check_eq((served(&first), served(&second)), ((0, 1), (3, 1)))
+}
+
+#[test]
+fn joins_serve_both_disks(rt: LibcRuntime) -> Result<(), Fail> {
+    let heap = rt.alloc();
+    let mut one = image_of(heap, 512)?;
+    let mut two = image_of(heap, 1024)?;
+    check_join(heap, &mut one, &mut two, &mut [7; 511], &mut [10; 512])?;
     check_eq(
         [byte_in(&one, 0)?, byte_in(&two, 0)?, byte_in(&two, 1)?],
         [50, 10, 52],
