@@ -11,6 +11,10 @@ pub record Optimal (h : ℕ) (touches frames : List ℕ) (d : ℕ) : Type 0 wher
   pub schedule : Demand h [] touches d
   pub fewest : (e : ℕ) → Demand h [] touches e → d ≤ e
 
+-- every list of serving frames is a demand schedule with the same fetches
+abbrev pub ServingsAreSchedules : Type 0
+ServingsAreSchedules = (h d : ℕ) (touches frames : List ℕ) → Serving h [] touches frames d → Demand h [] touches d
+
 -- The bound over a stretch: what a policy with k frames fetches in it, whatever came before, against a schedule on h frames that
 -- enters the stretch with any keys.
 abbrev pub Competitive : {Setting State : Type 0} → Rules Setting State → Type 0

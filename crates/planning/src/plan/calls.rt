@@ -7,7 +7,7 @@ ghost use lib.ListN.{length, take, drop};
 ghost use Rattle.std.specs.Results.{isOk};
 ghost use Rattle.std.specs.Vec.{made};
 ghost use Rattle.std.specs.declared.result.Result.the-variants.{Ok};
-ghost use Rattle.planning.specs.Bounds.{Optimal};
+ghost use Rattle.planning.specs.Bounds.{Optimal, ServingsAreSchedules};
 ghost use Rattle.planning.specs.Chosen.{NextTouch};
 ghost use Rattle.planning.specs.Minimum.{min-serves, min-fetches};
 ghost use Rattle.planning.specs.Plan.{Places, ceiling as ceiling-at, planned, plan-answer};
@@ -106,6 +106,7 @@ pub fn plan_touches<K: Key>(
     ensures answer { λ r. ⌜ r ≡ planned (map (K·Key .code) (now (keys .entry))) frames smaller (record { slots = length (now (slots .entry)); next = length (now (next .entry)); held = length (now (held .entry)); serving = length (now (serving .entry)) }) ⌝ }
     ensures serving { λ r. ⌜ now (serving .exit) ≡ cond (isOk r) (min-serves smaller [] (map (K·Key .code) (now (keys .entry))) ++ drop (length (now (keys .entry))) (now (serving .entry))) (now (serving .entry)) ⌝ }
     ensures optimal { λ r. ⌜ made r (λ p. Optimal smaller (map (K·Key .code) (now (keys .entry))) (take (length (now (keys .entry))) (now (serving .exit))) (p .fetches)) ⌝ }
+    ensures schedules { λ _. ⌜ ServingsAreSchedules ⌝ }
     ensures refused { λ r. ⌜ (isOk r ≡ false → (now (slots .exit) ≡ now (slots .entry)) × (now (next .exit) ≡ now (next .entry)) × (now (held .exit) ≡ now (held .entry))) ⌝ }
 {
     let lent = Lent {

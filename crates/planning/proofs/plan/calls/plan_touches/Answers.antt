@@ -15,6 +15,7 @@ use Rattle.planning.specs.declared.plan.Plan.{Plan}
 use Rattle.planning.specs.Plan.{Places, ceiling, plan-of, plan-answer, planned}
 use Rattle.planning.proofs.Ceilings.{min-optimal}
 use Rattle.planning.proofs.Lists.{same-ok}
+use Rattle.planning.proofs.Servings.{served}
 use Rattle.planning.proofs.Plans.{plan-passed, planned-refused, planned-accepted, min-most, ceiling-fits}
 use Rattle.planning.proofs.plan.calls.plan_touches.Needs as need
 
@@ -40,6 +41,7 @@ returns-in-Break-check-plan g c =
       answer = p .1 ∙ ap Err (p .2) ∙ planned-refused touches k h lent _ judged;
       serving = sym (cond-false _ _ _ no-plan);
       optimal = made-from-err _ _ (c .from-residual .ensures .0);
+      schedules = served;
       refused = λ _. (refl, refl, refl);
     }
 
@@ -79,5 +81,6 @@ returns g c =
       answer = ap Ok (plan-same _ _ _ k h (c .ceiling-ceiling .ensures) d) ∙ sym (planned-accepted touches k h lent judged);
       serving = c .run-min .ensures .serving;
       optimal = subst (λ (w : List ℕ). Optimal h touches w (c .in-Continue-fetches .fetches)) (sym front) (subst (Optimal h touches serves) (sym d) (min-optimal h (p .smaller .0) touches));
+      schedules = served;
       refused = λ e. absurd (true≢false e);
     }
