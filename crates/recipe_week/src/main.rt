@@ -58,7 +58,14 @@ fn print_week(rt: &LibcRuntime, text: &[u8]) -> Result<(), AnyError> {
         mut held,
         mut serving,
     } = Memory::new(heap)?;
-    match sheet_of_trace(text, &mut keys, &mut slots, &mut next, &mut held, &mut serving) {
+    match sheet_of_trace(
+        text,
+        &mut keys,
+        &mut slots,
+        &mut next,
+        &mut held,
+        &mut serving,
+    ) {
         Ok(rows) => {
             println!(rt, "Tuesday: the sheet")?;
             println!(rt, "  frames,LRU,FIFO,CLOCK,MIN")?;

@@ -1,7 +1,7 @@
 // Planning, the run through the cache, and the end.
 use crate::tasks::PINNED;
-use crate::tasks::SECTORS;
 use crate::tasks::SECTOR_BYTES;
+use crate::tasks::SECTORS;
 use crate::tasks::TASKS;
 use crate::tasks::touches_of;
 use crate::tasks::turns_of;
@@ -107,7 +107,10 @@ fn print_outcome(rt: &LibcRuntime, plan: Plan, outcome: Outcome) -> io::Result<(
     let reads = outcome.below.reads;
     let writes = outcome.below.writes;
     let within = yes_or_no(outcome.fetches <= plan.ceiling);
-    println!(rt, "  F is {fetches}; below, {reads} reads and {writes} writes were served")?;
+    println!(
+        rt,
+        "  F is {fetches}; below, {reads} reads and {writes} writes were served"
+    )?;
     println!(rt, "  within the ceiling: {within}")
 }
 
@@ -120,8 +123,14 @@ pub fn run_week(rt: &LibcRuntime, keys: &[VolumeKey]) -> Result<(), AnyError> {
     let plan = plan_for(heap, &touches)?;
     let fewest = plan.fetches;
     let ceiling = plan.ceiling;
-    println!(rt, "Wednesday: the plan for {FRAMES} frames, by a schedule on {SMALLER}")?;
-    println!(rt, "  {count} touches recorded, {unpinned} of them on sectors that are not pinned")?;
+    println!(
+        rt,
+        "Wednesday: the plan for {FRAMES} frames, by a schedule on {SMALLER}"
+    )?;
+    println!(
+        rt,
+        "  {count} touches recorded, {unpinned} of them on sectors that are not pinned"
+    )?;
     println!(rt, "  fewest fetches {fewest}, ceiling {ceiling}")?;
     let Ok(geometry) = Geometry::new(FRAMES, 1) else {
         return Err("no such geometry".into());
@@ -131,11 +140,17 @@ pub fn run_week(rt: &LibcRuntime, keys: &[VolumeKey]) -> Result<(), AnyError> {
     let mut image = vec![in heap; 0u8; IMAGE_BYTES]?;
     let mut alone = vec![in heap; 0u8; IMAGE_BYTES]?;
     let outcome = run_image(geometry, &mut image, &mut turns);
-    println!(rt, "Thursday: {TASKS} tasks take {count} turns over {SECTORS} sectors, sector {PINNED} pinned")?;
+    println!(
+        rt,
+        "Thursday: {TASKS} tasks take {count} turns over {SECTORS} sectors, sector {PINNED} pinned"
+    )?;
     print_outcome(rt, plan, outcome)?;
     let _ = run_alone(&mut alone, &mut again);
     let same = yes_or_no(image.as_slice() == alone.as_slice());
     println!(rt, "Friday: the cache is ended")?;
-    println!(rt, "  the image holds the bytes of the same turns on the disk alone: {same}")?;
+    println!(
+        rt,
+        "  the image holds the bytes of the same turns on the disk alone: {same}"
+    )?;
     Ok(())
 }

@@ -41,9 +41,9 @@ placed-more : (p q : ℕ) (j : Result (List ℕ) LineFault) (ts : List ℕ) → 
 placed-more p q (Err f) ts l e = absurd (no-fault _ _ e)
 placed-more p q (Ok us) ts l e = elim (cases-bool (leb (length us) p)) [
   | inl a ↦
-    let s : us ≡ ts = same-touches _ _ (rw a at e) in
-    let fits = leb-true (length us) p a in
-    (rw (le-leb (length us) q (omega arith)) (ap Ok s), rw (sym s) fits)
+      let s : us ≡ ts = same-touches _ _ (rw a at e) in
+      let fits = leb-true (length us) p a in
+      (rw (le-leb (length us) q (omega arith)) (ap Ok s), rw (sym s) fits)
   | inr a ↦ absurd (no-fault _ _ (rw a at e))
 ]
 

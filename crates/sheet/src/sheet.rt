@@ -64,7 +64,10 @@ pub fn sheet_of_trace(
     ensures keys { λ _. ⌜ Written (touches-for (now (text .entry)) (record { keys = length (now (keys .entry)); slots = length (now (slots .entry)); next = length (now (next .entry)); held = length (now (held .entry)); serving = length (now (serving .entry)) })) (now (keys .entry)) (now (keys .exit)) ⌝ }
     ensures refused { λ r. ⌜ (isOk r ≡ false → (now (slots .exit) ≡ now (slots .entry)) × (now (next .exit) ≡ now (next .entry)) × (now (held .exit) ≡ now (held .entry)) × (now (serving .exit) ≡ now (serving .entry))) ⌝ }
 {
-    let room = keys.len().min(slots.len()).min(next.len()).min(serving.len());
+    let room = keys.len()
+        .min(slots.len())
+        .min(next.len())
+        .min(serving.len());
     judge_trace(text, room)?;
     if held.len() < 64 {
         return Err(ReplayFault::Refused(Refusal::TooFewPlaces));

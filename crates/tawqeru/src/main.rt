@@ -97,7 +97,14 @@ fn print_sheet(rt: &LibcRuntime, text: &[u8], memory: Memory) -> io::Result<()> 
         mut held,
         mut serving,
     } = memory;
-    match sheet_of_trace(text, &mut keys, &mut slots, &mut next, &mut held, &mut serving) {
+    match sheet_of_trace(
+        text,
+        &mut keys,
+        &mut slots,
+        &mut next,
+        &mut held,
+        &mut serving,
+    ) {
         Ok(rows) => {
             println!(rt, "frames,LRU,FIFO,CLOCK,MIN")?;
             for row in &rows {
@@ -189,7 +196,10 @@ fn print_plan(
             let fifo = line.fifo;
             let clock = line.clock;
             println!(rt, "frames,smaller,MIN,ceiling,LRU,FIFO,CLOCK")?;
-            println!(rt, "{frames},{smaller},{fewest},{ceiling},{lru},{fifo},{clock}")
+            println!(
+                rt,
+                "{frames},{smaller},{fewest},{ceiling},{lru},{fifo},{clock}"
+            )
         }
         Err(fault) => print_fault(rt, fault),
     }

@@ -60,10 +60,16 @@ fn print_turn(rt: &LibcRuntime, turn: &Turn) -> io::Result<()> {
     let sector = turn.sector;
     let first = turn.buffer.first().copied().unwrap_or(0);
     match turn.answer {
-        Some(Ok(())) => println!(rt, "task {task}: {request} sector {sector}: served, first byte {first}"),
+        Some(Ok(())) => println!(
+            rt,
+            "task {task}: {request} sector {sector}: served, first byte {first}"
+        ),
         Some(Err(refusal)) => {
             let number = refusal.number();
-            println!(rt, "task {task}: {request} sector {sector}: refused by {number}")
+            println!(
+                rt,
+                "task {task}: {request} sector {sector}: refused by {number}"
+            )
         }
         None => println!(rt, "task {task}: {request} sector {sector}: not taken"),
     }

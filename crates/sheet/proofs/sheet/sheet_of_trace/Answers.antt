@@ -35,7 +35,7 @@ returns c =
     let count = same-touches _ _ (c .in-Continue-touches .ensures tt .answer ∙ ap counted (more .0)) in
     let filled = subst (λ (r : Result (List ℕ) ReplayFault). Written r (c .args .keys .now) (c .read-trace .last .keys)) (more .0) written in
     let part : map volume-code (take (c .in-Continue-touches .touches - 0) (c .read-trace .last .keys)) ≡ ts =
-        ap (λ n. map volume-code (take n (c .read-trace .last .keys))) (let z : c .in-Continue-touches .touches - 0 ≡ length ts = omega (arith, count) in z) ∙ filled .first in
+    ap (λ n. map volume-code (take n (c .read-trace .last .keys))) (let z : c .in-Continue-touches .touches - 0 ≡ length ts = omega (arith, count) in z) ∙ filled .first in
     let rows = same-ok _ _ (c .in-Continue-rows .ensures tt) ∙ ap (λ (w : List ℕ). map (row-of w) frame-counts) part in
     record {
       answer = ap Ok rows ∙ sym (sheet-fits text lent ts tf);

@@ -51,7 +51,7 @@ returns-in-Break-clock g c =
     let b = c .frames-frames .ensures .bounded in
     let p = c .pre .few in
     let w = wide _ _ _ _ _ _ _ _ (length-map keys (g .K·Key .code)) (p .0) (p .1 .0) (p .1 .1 .0) (c .pre .held) (p .1 .1 .1)
-        (c .replay-2 .kept .slots ∙ c .replay .kept .slots) (c .replay-2 .kept .held ∙ c .replay .kept .held) in
+    (c .replay-2 .kept .slots ∙ c .replay .kept .slots) (c .replay-2 .kept .held ∙ c .replay .kept .held) in
     absurd (never _ _ (sym (c .in-Break-clock .was tt) ∙ c .replay-3 .ensures .answer ∙ replay-counts _ _ _ _ _ _ (b .some) (b .most) w clock-rules tt))
 
 pub returns-in-Break-plan : need.returns-in-Break-plan
@@ -61,7 +61,7 @@ returns-in-Break-plan g c =
     let k : c .frames-frames .result ≡ frames-of (c .args .geometry .now) = c .frames-frames .ensures .value in
     let p = c .pre .few in
     let w = wide _ _ _ _ _ _ _ _ (length-map keys (g .K·Key .code)) (p .0) (p .1 .0) (p .1 .1 .0) (c .pre .held) (p .1 .1 .1)
-        (c .replay-3 .kept .slots ∙ c .replay-2 .kept .slots ∙ c .replay .kept .slots) (c .replay-3 .kept .held ∙ c .replay-2 .kept .held ∙ c .replay .kept .held) in
+    (c .replay-3 .kept .slots ∙ c .replay-2 .kept .slots ∙ c .replay .kept .slots) (c .replay-3 .kept .held ∙ c .replay-2 .kept .held ∙ c .replay .kept .held) in
     absurd (never _ _ (sym (c .in-Break-plan .was tt) ∙ c .plan-touches .ensures .answer ∙ plan-counts (map (g .K·Key .code) keys) (c .frames-frames .result) _ _ _ _ (omega (arith, k, b .some)) (omega (arith, k, b .most)) w))
 
 pub returns : need.returns
