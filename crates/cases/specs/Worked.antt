@@ -19,8 +19,8 @@ fifo k touches = fetches fifo-rules (start fifo-rules tt k) touches
 abbrev pub clock : ℕ → List ℕ → ℕ
 clock k touches = fetches clock-rules (start clock-rules tt k) touches
 
-abbrev pub min : ℕ → List ℕ → ℕ
-min k touches = min-fetches k [] touches
+abbrev pub optimum : ℕ → List ℕ → ℕ
+optimum k touches = min-fetches k [] touches
 
 -- a list on which FIFO fetches more often with four frames than with three
 abbrev pub anomaly : List ℕ
@@ -40,15 +40,15 @@ examples =
     (lru 3 anomaly, 10)
     ∷ (fifo 3 anomaly, 9)
     ∷ (clock 3 anomaly, 9)
-    ∷ (min 3 anomaly, 7)
+    ∷ (optimum 3 anomaly, 7)
     ∷ (lru 4 anomaly, 8)
     ∷ (fifo 4 anomaly, 10)
     ∷ (clock 4 anomaly, 10)
-    ∷ (min 4 anomaly, 6)
-    ∷ (min 2 anomaly, 9)
+    ∷ (optimum 4 anomaly, 6)
+    ∷ (optimum 2 anomaly, 9)
     ∷ (clock 2 marking, 4)
-    ∷ (min 2 pair, 3)
-    ∷ (ceiling 2 2 (min 2 pair), 8)
+    ∷ (optimum 2 pair, 3)
+    ∷ (ceiling 2 2 (optimum 2 pair), 8)
     ∷ (ceiling 64 32 1000, 2003)
     ∷ []
 

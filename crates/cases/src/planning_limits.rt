@@ -22,13 +22,7 @@ const FILL_SLOT: Slot<Sector> = Slot::Taken {
 
 // The frames, the smaller number of frames, the places of the lists (slots, next touches, held keys, serving frames),
 // and the number of the refusal, 0 for none.
-#[derive(Clone, Copy)]
-struct Case {
-    frames: usize,
-    smaller: usize,
-    places: [usize; 4],
-    refusal: u8,
-}
+type Case = (usize, usize, [usize; 4], u8);
 
 fn number_in<T: Drop>(answer: Result<T, Refusal>) -> u8 {
     match answer {
@@ -75,15 +69,15 @@ fn has_fill_bytes(bytes: &[u8]) -> bool {
 
 // The number of the refusal, and whether the lists are as before.
 fn judge_plan(heap: Global, keys: &[Sector], case: &Case) -> Result<(u8, bool), Fail> {
-    let [slots, next, held, serving] = case.places;
+    let (frames, smaller, [slots, next, held, serving], _) = *case;
     let mut slots = fill_slots(heap, slots)?;
     let mut next = vec![in heap; u32::from(FILL); next]?;
     let mut held = vec![in heap; u32::from(FILL); held]?;
     let mut serving = vec![in heap; FILL; serving]?;
     let number = number_in(plan_touches(
         keys,
-        case.frames,
-        case.smaller,
+        frames,
+        smaller,
         &mut slots,
         &mut next,
         &mut held,
@@ -97,91 +91,26 @@ fn judge_plan(heap: Global, keys: &[Sector], case: &Case) -> Result<(u8, bool), 
 // An accepted plan uses its lists.
 fn check_plans(heap: Global, keys: &[Sector], cases: &[Case]) -> Result<(), Fail> {
     for case in cases {
-        let expected = (case.refusal, case.refusal != 0);
+        let expected = (case.3, case.3 != 0);
         check_eq(judge_plan(heap, keys, case)?, expected)?;
     }
     Ok(())
 }
 
 const SHORT_LIST: [Case; 13] = [
-    Case {
-        frames: 0,
-        smaller: 1,
-        places: [12, 12, 64, 12],
-        refusal: 1,
-    },
-    Case {
-        frames: 65,
-        smaller: 1,
-        places: [12, 12, 64, 12],
-        refusal: 1,
-    },
-    Case {
-        frames: 0,
-        smaller: 0,
-        places: [0, 0, 0, 0],
-        refusal: 1,
-    },
-    Case {
-        frames: 64,
-        smaller: 64,
-        places: [12, 12, 64, 12],
-        refusal: 0,
-    },
-    Case {
-        frames: 4,
-        smaller: 2,
-        places: [12, 12, 2, 12],
-        refusal: 0,
-    },
-    Case {
-        frames: 4,
-        smaller: 2,
-        places: [11, 12, 2, 12],
-        refusal: 18,
-    },
-    Case {
-        frames: 4,
-        smaller: 2,
-        places: [12, 11, 2, 12],
-        refusal: 18,
-    },
-    Case {
-        frames: 4,
-        smaller: 2,
-        places: [12, 12, 1, 12],
-        refusal: 18,
-    },
-    Case {
-        frames: 4,
-        smaller: 2,
-        places: [12, 12, 2, 11],
-        refusal: 18,
-    },
-    Case {
-        frames: 4,
-        smaller: 0,
-        places: [11, 12, 2, 12],
-        refusal: 18,
-    },
-    Case {
-        frames: 4,
-        smaller: 0,
-        places: [12, 12, 5, 12],
-        refusal: 19,
-    },
-    Case {
-        frames: 4,
-        smaller: 5,
-        places: [12, 12, 5, 12],
-        refusal: 19,
-    },
-    Case {
-        frames: 4,
-        smaller: 4,
-        places: [12, 12, 4, 12],
-        refusal: 0,
-    },
+    (0, 1, [12, 12, 64, 12], 1),
+    (65, 1, [12, 12, 64, 12], 1),
+    (0, 0, [0, 0, 0, 0], 1),
+    (64, 64, [12, 12, 64, 12], 0),
+    (4, 2, [12, 12, 2, 12], 0),
+    (4, 2, [11, 12, 2, 12], 18),
+    (4, 2, [12, 11, 2, 12], 18),
+    (4, 2, [12, 12, 1, 12], 18),
+    (4, 2, [12, 12, 2, 11], 18),
+    (4, 0, [11, 12, 2, 12], 18),
+    (4, 0, [12, 12, 5, 12], 19),
+    (4, 5, [12, 12, 5, 12], 19),
+    (4, 4, [12, 12, 4, 12], 0),
 ];
 
 #[test]
@@ -191,39 +120,14 @@ fn plans_are_judged(rt: LibcRuntime) -> Result<(), Fail> {
 }
 
 const LONGEST_LIST: [Case; 2] = [
-    Case {
-        frames: 4,
-        smaller: 2,
-        places: [4096, 4096, 2, 4096],
-        refusal: 0,
-    },
-    Case {
-        frames: 4,
-        smaller: 2,
-        places: [4095, 4096, 2, 4096],
-        refusal: 18,
-    },
+    (4, 2, [4096, 4096, 2, 4096], 0),
+    (4, 2, [4095, 4096, 2, 4096], 18),
 ];
 
 const LONGER_LIST: [Case; 3] = [
-    Case {
-        frames: 4,
-        smaller: 2,
-        places: [4097, 4097, 2, 4097],
-        refusal: 17,
-    },
-    Case {
-        frames: 4,
-        smaller: 0,
-        places: [0, 0, 0, 0],
-        refusal: 17,
-    },
-    Case {
-        frames: 65,
-        smaller: 2,
-        places: [4097, 4097, 2, 4097],
-        refusal: 1,
-    },
+    (4, 2, [4097, 4097, 2, 4097], 17),
+    (4, 0, [0, 0, 0, 0], 17),
+    (65, 2, [4097, 4097, 2, 4097], 1),
 ];
 
 // So many keys, all different.

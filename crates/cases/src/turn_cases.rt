@@ -9,93 +9,30 @@ use disk::serve_turns;
 use std::alloc::Global;
 use std::test::*;
 
-// A turn as it is asked for, and how it ends: the number of the refusal, 0 for none, and its buffer's byte.
-#[derive(Clone, Copy)]
-struct Case {
-    task: u8,
-    request: Request,
-    sector: u32,
-    len: usize,
-    answer: u8,
-    byte: u8,
-}
+// A turn: its task, request, sector and the bytes of its buffer; and how it ends: the number of the refusal, 0 for
+// none, and the byte that its buffer has throughout.
+type Case = (u8, Request, u32, usize, u8, u8);
 
 const CASES: [Case; 8] = [
-    Case {
-        task: 1,
-        request: Request::Write,
-        sector: 0,
-        len: 512,
-        answer: 0,
-        byte: 41,
-    },
-    Case {
-        task: 2,
-        request: Request::Read,
-        sector: 0,
-        len: 512,
-        answer: 0,
-        byte: 41,
-    },
-    Case {
-        task: 1,
-        request: Request::Read,
-        sector: 3,
-        len: 512,
-        answer: 0,
-        byte: 13,
-    },
-    Case {
-        task: 3,
-        request: Request::Write,
-        sector: 2,
-        len: 512,
-        answer: 7,
-        byte: 43,
-    },
-    Case {
-        task: 3,
-        request: Request::Flush,
-        sector: 9,
-        len: 1,
-        answer: 0,
-        byte: 43,
-    },
-    Case {
-        task: 2,
-        request: Request::Read,
-        sector: 4,
-        len: 512,
-        answer: 4,
-        byte: 42,
-    },
-    Case {
-        task: 1,
-        request: Request::Read,
-        sector: 4,
-        len: 511,
-        answer: 3,
-        byte: 41,
-    },
-    Case {
-        task: 2,
-        request: Request::Write,
-        sector: 3,
-        len: 512,
-        answer: 0,
-        byte: 42,
-    },
+    (1, Request::Write, 0, 512, 0, 41),
+    (2, Request::Read, 0, 512, 0, 41),
+    (1, Request::Read, 3, 512, 0, 13),
+    (3, Request::Write, 2, 512, 7, 43),
+    (3, Request::Flush, 9, 1, 0, 43),
+    (2, Request::Read, 4, 512, 4, 42),
+    (1, Request::Read, 4, 511, 3, 41),
+    (2, Request::Write, 3, 512, 0, 42),
 ];
 
 // The turns, each with its task's byte throughout the buffer.
 fn turns_of(heap: Global, cases: &[Case]) -> Result<Vec<Turn>, Fail> {
     let mut turns = Vec::new(heap);
-    for case in cases {
-        let buffer = vec![in heap; case.task.wrapping_add(40); case.len]?;
+    for (task, request, sector, len, ..) in cases {
+        let buffer = vec![in heap; task.wrapping_add(40); *len]?;
         turns.push(Turn {
-            task: case.task,
-            request: case.request,
-            sector: case.sector,
+            task: *task,
+            request: *request,
+            sector: *sector,
             buffer,
             answer: None,
         })?;
@@ -108,11 +45,9 @@ fn check_turn(turn: &Turn, case: &Case) -> Result<(), Fail> {
         Some(answer) => number_of(answer),
         None => return Err(Fail::new("no answer")),
     };
-    check_eq((turn.task, answer), (case.task, case.answer))?;
-    check_eq(
-        (turn.buffer.len(), only_byte(&turn.buffer)?),
-        (case.len, case.byte),
-    )
+    let (task, _, _, len, expected, byte) = *case;
+    check_eq((turn.task, answer), (task, expected))?;
+    check_eq((turn.buffer.len(), only_byte(&turn.buffer)?), (len, byte))
 }
 
 #[test]
