@@ -1,4 +1,6 @@
 // What every layer shares: refusals, the geometry of a cache, and keys.
+#![tactic(auto)]
+
 mod geometry;
 mod key;
 mod mix;

@@ -1,4 +1,6 @@
 // A write-back cache of any disk, by any policy.
+#![tactic(auto)]
+
 mod as_disk;
 mod cache;
 mod run;

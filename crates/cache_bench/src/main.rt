@@ -1,5 +1,7 @@
 // Takes turns of one kind through a cache of 64 frames over an image of 128 sectors, and prints F, with a sum of the bytes that went through
 // the buffer and one of the image at the end. The arguments are the number of turns and the kind.
+#![tactic(auto)]
+
 ghost use Rattle.std.specs.Prelude.{◌≡◌, ◌≤◌, length};
 ghost use Rattle.cache.specs.Reading.{Safe};
 

@@ -1,4 +1,6 @@
 // Sessions with the cache whose ends are known from counting by hand.
+#![tactic(auto)]
+
 #[cfg(test)]
 mod helpers;
 #[cfg(test)]

@@ -1,4 +1,6 @@
 // Examples that are known from counting by hand: some of them proved, the others run as tests.
+#![tactic(auto)]
+
 ghost use Rattle.std.specs.Prelude.{◌≡◌};
 ghost use Rattle.cases.specs.Worked.{anomaly, examples, Agree};
 

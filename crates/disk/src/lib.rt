@@ -1,4 +1,6 @@
 // Disks of every kind, by one meaning.
+#![tactic(auto)]
+
 mod disk;
 mod image;
 mod joined;

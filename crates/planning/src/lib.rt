@@ -1,4 +1,6 @@
 // What a list of touches costs: the replay of a policy, and the fewest fetches that any schedule needs.
+#![tactic(auto)]
+
 mod choose;
 mod forecast;
 mod hold;

@@ -1,4 +1,6 @@
 // Takes one recorded trace through a recipe's week: the record, the sheet, the plan, the run of six tasks through the cache, and the end.
+#![tactic(auto)]
+
 mod memory;
 mod run;
 mod tasks;

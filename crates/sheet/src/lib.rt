@@ -1,4 +1,6 @@
 // The sheet that a planner reads: what each policy and the optimum fetch on a trace, for a few numbers of frames.
+#![tactic(auto)]
+
 mod row;
 mod sheet;
 

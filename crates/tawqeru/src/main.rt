@@ -1,5 +1,7 @@
 // Reads a trace from standard input. Without arguments it prints the sheet; with two, K and H, the plan for K frames by a schedule on H,
 // beside what each policy fetches on K frames.
+#![tactic(auto)]
+
 use anyhow::anyhow;
 use base::VolumeKey;
 use index::Slot;

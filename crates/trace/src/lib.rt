@@ -1,4 +1,6 @@
 // Trace text as volume keys: reads lines of unit, sector number, size, opcode and time stamp, and refuses what has another form.
+#![tactic(auto)]
+
 mod access;
 mod fault;
 mod fields;

@@ -1,4 +1,6 @@
 // Serves turns of several tasks on two images joined to one disk, and prints each turn with its answer, then the tallies.
+#![tactic(auto)]
+
 use base::Refusal;
 use disk::{Disk, ImageDisk, JoinedDisk, Request, Turn, serve_turns};
 use std::alloc::{AllocError, Global};
