@@ -1,5 +1,5 @@
 -- Which numbers make a geometry, and what it is then. Assumes nothing.
-use Rattle.std.specs.Prelude.{◌≡◌, ℕ, ◌≤◌, Bool, true, false, cond, ◌&&◌, Ok, Err, Result, nat_le}
+use Rattle.std.specs.Prelude.{◌≡◌, ℕ, ◌≤◌, cond, ◌&&◌, Ok, Err, Result, nat_le}
 use Rattle.base.specs.declared.refusal.Refusal.{Refusal}
 use Rattle.base.specs.declared.refusal.Refusal.TheVariants.{FrameCount, PinPlaceCount}
 use Rattle.base.specs.declared.geometry.Geometry.{Geometry}

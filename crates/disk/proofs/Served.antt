@@ -1,6 +1,6 @@
 -- Which calls a disk serves.
-use Rattle.std.proofs.Common.{◌≡◌, ℕ, ◌<◌, ◌≤◌, true, false, cond, eqb, ltb, length, is_ok, Ok, Err, sym, refl, ap, ◌∙◌, inl, inr, arith}
-use Rattle.std.proofs.lemmas.Bool.{cases_Bool, lt-ltb, ltb-true, eqb-true, eq-eqb}
+use Rattle.std.proofs.Common.{◌≡◌, ℕ, ◌<◌, true, false, eqb, ltb, is_ok, Ok, Err, sym, ap, inl, inr, arith}
+use Rattle.std.proofs.lemmas.Bool.{cases_Bool, lt-ltb, ltb-true, eqb-true}
 use Rattle.base.specs.declared.refusal.Refusal.{Refusal}
 use Rattle.disk.specs.Meaning.{Meaning, answer, serves}
 

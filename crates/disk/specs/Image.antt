@@ -1,5 +1,5 @@
 -- What an image disk means. Assumes nothing.
-use Rattle.std.specs.Prelude.{ℕ, ◌+◌, ◌*◌, ◌/◌, min, Bool, cond, ◌&&◌, List, ◌++◌, length, take, drop, nat_lt}
+use Rattle.std.specs.Prelude.{ℕ, ◌+◌, ◌*◌, ◌/◌, min, ◌&&◌, List, ◌++◌, length, take, drop, nat_lt}
 use Rattle.base.specs.Lists.{member}
 use Rattle.disk.specs.Meaning.{Meaning, largest_count}
 use Rattle.disk.specs.declared.image.ImageDisk.{ImageDisk}

@@ -1,5 +1,5 @@
 -- Lists of turns, as a disk alone serves them. Assumes nothing.
-use Rattle.std.specs.Prelude.{◌≡◌, ℕ, ◌+◌, min, Bool, true, false, cond, ◌&&◌, List, [], ◌∷◌, ◌++◌, length, Some, None, Ok, Err, vec_items, Result, ◌==◌}
+use Rattle.std.specs.Prelude.{◌≡◌, ℕ, ◌+◌, min, Bool, true, false, cond, ◌&&◌, List, [], ◌∷◌, ◌++◌, length, Some, Ok, vec_items, Result, ◌==◌}
 use Rattle.base.specs.declared.refusal.Refusal.{Refusal}
 use Rattle.disk.specs.declared.turn.Request.{Request}
 use Rattle.disk.specs.declared.turn.Request.TheVariants.{Read, Write, Flush}

@@ -1,4 +1,4 @@
-use Rattle.std.proofs.Common.{◌≡◌, ◌^◌, ◌<◌, ◌≤◌, length, sym, refl, ap, ◌∙◌, arith}
+use Rattle.std.proofs.Common.{◌^◌, ◌<◌, ◌≤◌, length, refl, ap, ◌∙◌, arith}
 use Rattle.disk.specs.Meaning.{Meaning}
 use Rattle.disk.proofs.Turns.{running_more, running_all, along, along_is}
 use Rattle.disk.proofs.serve.serve_turns.Goals as goal
@@ -9,8 +9,8 @@ loop-i-init g c = (c.requires, record { answered = tt; rest = refl; long = refl;
 pub loop-i-preserved : goal.loop-i-preserved
 loop-i-preserved g c =
     let h : c.loop-i.i < length c.loop-i.turns = omega arith in (
-      c.take-turn.ensures.kept,
-      running_more _ _ _ _ _ c.loop-i.invariant.1 c.index-turns-i.result _ c.take-turn.new.turn _ h refl c.take-turn.ensures.done c.take-turn.ensures.after,
+      c.take_turn.ensures.kept,
+      running_more _ _ _ _ _ c.loop-i.invariant.1 c.index-turns-i.result _ c.take_turn.new.turn _ h refl c.take_turn.ensures.done c.take_turn.ensures.after,
     )
 
 pub returns : goal.returns

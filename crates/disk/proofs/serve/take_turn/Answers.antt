@@ -6,9 +6,9 @@ pub returns-in-Read : goal.returns-in-Read
 returns-in-Read g c =
     let m = g.D.Disk.meaning c.args.disk.now in
     let t = c.args.turn.now in
-    let bs = c.deref-mut.result.now in
+    let bs = c.deref_mut.result.now in
     let is = c.in-Read.is in
-    let same = c.deref-mut.ensures.value in
+    let same = c.deref_mut.ensures.value in
     let long : length c.read-answer.new.buffer ≡ vec_len t.buffer = search rules in
     record {
       kept = c.read-answer.ensures.kept;
