@@ -1,5 +1,5 @@
 -- CLOCK: a hand that goes round over the frames, and a mark for each of them. Assumes nothing.
-use Rattle.std.specs.Prelude.{ℕ, zero, suc, ◌+◌, Bool, true, false, cond, List, take, set, replicate, nat_lt, slice_index_or, slice_set}
+use Rattle.std.specs.Prelude.{ℕ, zero, suc, ◌+◌, Bool, true, false, cond, List, take, replicate, nat_lt, slice_index_or, slice_set}
 use Rattle.policy.specs.Circle.{onward}
 use Rattle.policy.specs.Machine.{Rules}
 use Rattle.policy.specs.declared.clock.Clock.{Clock}

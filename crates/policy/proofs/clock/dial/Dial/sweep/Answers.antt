@@ -22,8 +22,8 @@ loop-self-preserved c =
     let size = c.args.size in
     let inv = c.loop-self.invariant in (
       length-set d.marks d.hand false ∙ inv.0,
-      rw c.next-frame-self.ensures (onward_within size d.hand (omega arith)),
-      left_goes size d.hand d.marks (omega arith) inv.1 (sweep size (full_clock size c.args.self.now)) c.next-frame-self.result c.next-frame-self.ensures c.loop-self-test.true inv.2,
+      rw c.next_frame-self.ensures (onward_within size d.hand (omega arith)),
+      left_goes size d.hand d.marks (omega arith) inv.1 (sweep size (full_clock size c.args.self.now)) c.next_frame-self.result c.next_frame-self.ensures c.loop-self-test.true inv.2,
     )
 
 pub returns : goal.returns
