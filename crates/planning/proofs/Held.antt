@@ -12,13 +12,13 @@ use Rattle.planning.proofs.Members.{member_getD}
 
 -- one frame more, with a new key
 frame_push : (keys : List ℕ) (x y : ℕ) → member x keys ≡ false →
-    frame_of (keys ++ (x ∷ [])) y ≡ cond (eqb y x) (Some (length keys)) (frame_of keys y)
+    frame_of (keys ++ (x ∷ [])) y ≡ cond (eqb x y) (Some (length keys)) (frame_of keys y)
 frame_push [] x y e = grind (arith, nat_tests)
 frame_push (z ∷ zs) x y e = let ih = frame_push zs x y in grind (arith, nat_tests)
 
 -- a frame with a new key in place of its own
 frame_set : (keys : List ℕ) (f x y : ℕ) → Apart keys → f < length keys → member x keys ≡ false →
-    frame_of (set keys f x) y ≡ cond (eqb y x) (Some f) (cond (eqb y (get_or keys f 0)) None (frame_of keys y))
+    frame_of (set keys f x) y ≡ cond (eqb x y) (Some f) (cond (eqb (get_or keys f 0) y) None (frame_of keys y))
 frame_set [] f x y a h e = absurd (omega arith)
 frame_set (z ∷ zs) zero x y a h e = grind (arith, nat_tests)
 frame_set (z ∷ zs) (suc f) x y a h e =
@@ -58,7 +58,7 @@ module _ (touches hs : List ℕ) (index : Map) (keys : List ℕ) (f place : ℕ)
     sized =
         let out : has index (get_or keys f 0) ≡ true = ap is_some (q.found (get_or keys f 0)) ∙ rw (member_getD keys f low) in
         let new : has (after_remove index (get_or keys f 0)) (get_or touches place 0) ≡ false =
-        elim (cases_Bool (eqb (get_or touches place 0) (get_or keys f 0))) [
+        elim (cases_Bool (eqb (get_or keys f 0) (get_or touches place 0))) [
           | inl e ↦ rw e
           | inr e ↦ rw e (absent index keys (get_or touches place 0) (q.found (get_or touches place 0)) fresh)
         ] in

@@ -18,11 +18,11 @@ place_absent y (x ∷ xs) e = let ih = place_absent y xs in grind (arith, nat_te
 
 -- the touch at i, and those behind it
 later_cons : (i x y : ℕ) (rest : List ℕ) →
-    cond (member y (x ∷ rest)) (Some (i + place_in y (x ∷ rest))) None ≡ cond (eqb y x) (Some i) (cond (member y rest) (Some (i + 1 + place_in y rest)) None)
-later_cons i x y rest = elim (cases_Bool (eqb y x)) [
+    cond (member y (x ∷ rest)) (Some (i + place_in y (x ∷ rest))) None ≡ cond (eqb x y) (Some i) (cond (member y rest) (Some (i + 1 + place_in y rest)) None)
+later_cons i x y rest = let s : eqb x y ≡ eqb y x = grind (arith, nat_tests) in rw s (elim (cases_Bool (eqb y x)) [
   | inl e ↦ rw e (ap Some (omega arith))
   | inr e ↦ elim (cases_Bool (member y rest)) [ inl m ↦ rw (e, m) (ap Some (omega arith)) | inr m ↦ rw (e, m) ]
-]
+])
 
 -- What holds once the touches from place i on are seen.
 pub record Looking (xs next : List ℕ) (index : Map) (places i : ℕ) : Type 0 where
@@ -50,7 +50,7 @@ module _ (xs next : List ℕ) (index : Map) (places j i : ℕ) (seen : Looking x
   pub looking_more : (n : ℕ) → i < length next → n ≡ i + 1 + place_in (get_or xs i 0) (drop (i + 1) xs) →
       Looking xs (set next i n) (after_put index (get_or xs i 0) i) places i
   looking_more n room e = rw looking_accepted (record {
-    found = λ y. ap (cond (eqb y (get_or xs i 0)) (Some i)) (q.found y) ∙ sym (later_cons i (get_or xs i 0) y (drop (i + 1) xs)) ∙
+    found = λ y. ap (cond (eqb (get_or xs i 0) y) (Some i)) (q.found y) ∙ sym (later_cons i (get_or xs i 0) y (drop (i + 1) xs)) ∙
         ap (λ w. cond (member y w) (Some (i + place_in y w)) None) (sym (drop_more xs i 0 low));
     few = cond_both (has index (get_or xs i 0)) index.size (index.size + 1) (λ n. n + i ≤ length xs) (λ _. omega (arith, q.few)) (λ _. omega (arith, q.few));
     slots = q.slots;

@@ -6,8 +6,8 @@ use Rattle.cache.proofs.Promises.{promise_of}
 use Rattle.cache.proofs.Turnwise.{taking_none, taking_more, taking_all, all_alone}
 use Rattle.cache.proofs.run.run_turns.Goals as goal
 
-pub take-turn-requires : goal.take-turn-requires
-take-turn-requires g c = c.loop-i.invariant.0
+pub take_turn-requires : goal.take_turn-requires
+take_turn-requires g c = c.loop-i.invariant.0
 
 pub loop-i-init : goal.loop-i-init
 loop-i-init g c = (c.start-cache.ensures.safe, taking_none g.D.Disk g.P.Policy _ _)
@@ -15,8 +15,8 @@ loop-i-init g c = (c.start-cache.ensures.safe, taking_none g.D.Disk g.P.Policy _
 pub loop-i-preserved : goal.loop-i-preserved
 loop-i-preserved g c =
     let h : c.loop-i.i < length c.loop-i.turns = omega arith in (
-      c.take-turn.ensures.kept,
-      taking_more g.D.Disk g.P.Policy _ _ _ _ _ c.loop-i.invariant.1 c.index-turns-i.result _ c.take-turn.new.turn _ h refl c.take-turn.ensures.takes,
+      c.take_turn.ensures.kept,
+      taking_more g.D.Disk g.P.Policy _ _ _ _ _ c.loop-i.invariant.1 c.index-turns-i.result _ c.take_turn.new.turn _ h refl c.take_turn.ensures.takes,
     )
 
 pub returns : goal.returns
@@ -29,7 +29,7 @@ returns g c =
     record {
       safe = c.loop-i.invariant.0;
       runs = λ setting first.
-          let o = origin d p c.args.set-up setting in
+          let o = origin d p c.args.set_up setting in
           let t = q.takes o (c.start-cache.ensures.begins.taken setting first) in
           record {
             events = q.events;

@@ -6,36 +6,36 @@ use Rattle.cache.proofs.run.take_turn.Goals as goal
 pub returns-in-Read : goal.returns-in-Read
 returns-in-Read g c =
     let t = c.args.turn.now in
-    let q = c.read-sector-answer.new.self in
-    let ws = c.read-sector-answer.new.buffer in
+    let q = c.read_sector-answer.new.self in
+    let ws = c.read_sector-answer.new.buffer in
     let long : length ws ≡ vec_len t.buffer = search rules in
     record {
-      kept = c.read-sector-answer.ensures.kept;
+      kept = c.read_sector-answer.ensures.kept;
       takes = record {
-        event = record { request = Read; sector = t.sector; before = c.deref-mut.result.now; after = ws; answer = c.read-sector-answer.result; below = g.D.Disk.meaning q.below; fetched = q.fetched };
+        event = record { request = Read; sector = t.sector; before = c.deref_mut.result.now; after = ws; answer = c.read_sector-answer.result; below = g.D.Disk.meaning q.below; fetched = q.fetched };
         report = record {
           task = refl;
           request = refl;
           sector = refl;
           asked = sym c.in-Read.is;
           of = refl;
-          before = c.deref-mut.ensures.value;
+          before = c.deref_mut.ensures.value;
           after = with_items_is t.buffer ws long;
           answer = refl;
         };
-        takes = c.read-sector-answer.ensures.takes;
+        takes = c.read_sector-answer.ensures.takes;
       };
     }
 
 pub returns-in-Write : goal.returns-in-Write
 returns-in-Write g c =
     let t = c.args.turn.now in
-    let q = c.write-sector-answer.new.self in
+    let q = c.write_sector-answer.new.self in
     let bs = c.deref.result.now in
     record {
-      kept = c.write-sector-answer.ensures.kept;
+      kept = c.write_sector-answer.ensures.kept;
       takes = record {
-        event = record { request = Write; sector = t.sector; before = bs; after = bs; answer = c.write-sector-answer.result; below = g.D.Disk.meaning q.below; fetched = q.fetched };
+        event = record { request = Write; sector = t.sector; before = bs; after = bs; answer = c.write_sector-answer.result; below = g.D.Disk.meaning q.below; fetched = q.fetched };
         report = record {
           task = refl;
           request = refl;
@@ -46,7 +46,7 @@ returns-in-Write g c =
           after = sym c.deref.ensures.value;
           answer = refl;
         };
-        takes = c.write-sector-answer.ensures.takes;
+        takes = c.write_sector-answer.ensures.takes;
       };
     }
 

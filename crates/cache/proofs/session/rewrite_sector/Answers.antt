@@ -7,7 +7,7 @@ use Rattle.cache.proofs.session.rewrite_sector.Goals as goal
 
 pub returns : goal.returns
 returns g c =
-    let m = g.D.Disk.meaning c.args.set-up.below in
+    let m = g.D.Disk.meaning c.args.set_up.below in
     let n = seen (view g.D.Disk g.P.Policy c.start-cache.result.0) in
     let p = pinned_same _ _ _ _ _ c.pin.ensures.pinned in
     let b = c.start-cache.ensures.begins in
@@ -18,6 +18,6 @@ returns g c =
     } in
     record {
       under = c.end-below.ensures.under;
-      answers = c.write-sector-answer.ensures.answers ∙ same_answers m n same _ _;
-      bytes = c.end-below.ensures.ended.bytes ∙ ap (λ (u : Meaning). u.bytes) c.flush.ensures.flushed.shows ∙ same_written m n same _ _ _ c.write-sector-answer.ensures.after;
+      answers = c.write_sector-answer.ensures.answers ∙ same_answers m n same _ _;
+      bytes = c.end-below.ensures.ended.bytes ∙ ap (λ (u : Meaning). u.bytes) c.flush.ensures.flushed.shows ∙ same_written m n same _ _ _ c.write_sector-answer.ensures.after;
     }

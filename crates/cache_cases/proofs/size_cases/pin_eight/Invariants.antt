@@ -3,4 +3,4 @@ use Rattle.cache.specs.SetUp.{Ready}
 use Rattle.cache_cases.proofs.size_cases.pin_eight.Given as goal
 
 abbrev pub invariant-loop-sector : goal.invariant-loop-sector
-invariant-loop-sector g l = Ready g.D.Disk g.P.Policy l.set-up
+invariant-loop-sector g l = Ready g.D.Disk g.P.Policy l.set_up

@@ -37,8 +37,8 @@ loop-place-preserved g c =
     let map' = c.put.ensures.map ∙ ap (λ x. after_put (map_of code c.loop-place.index) x i) key' in
     (c.put.ensures.sound, subst (λ (m : Map). Looking xs (set c.loop-place.next i c.match-find.next) m (length (slots_of c.args.index.now)) i) (sym map') more)
 
-pub returns-in-err-put : goal.returns-in-err-put
-returns-in-err-put g c =
+pub returns-in_err-put : goal.returns-in_err-put
+returns-in_err-put g c =
     let code = g.K.Key.code in
     let keys = c.args.keys.now in
     let xs = map code keys in
@@ -49,7 +49,7 @@ returns-in-err-put g c =
     let fits : length xs ≤ length (slots_of c.args.index.now) = rw length-map (omega (arith, c.requires.few)) in
     let key' = code_at code keys i c.index-keys-place-in-loop-place.result low c.index-keys-place-in-loop-place.is in
     let taken = looking_accepted xs _ _ _ _ i c.loop-place.invariant.1 before low' fits in
-    absurd (never _ tt (sym c.in-err-put.was ∙ c.put.ensures.answer ∙ ap (put_answer (map_of code c.loop-place.index)) key' ∙ cond-true _ _ _ taken))
+    absurd (never _ tt (sym c.in_err-put.was ∙ c.put.ensures.answer ∙ ap (put_answer (map_of code c.loop-place.index)) key' ∙ cond-true _ _ _ taken))
 
 pub returns : goal.returns
 returns g c = record { answer = refl; next = λ j l. c.loop-place.invariant.1.nexts j (omega arith) (rw length-map l) }

@@ -16,25 +16,25 @@ use Rattle.planning.proofs.replay.replay.Goals as goal
 listed : {K : Type 0} (code : K → ℕ) (keys : List K) (slots f k held : ℕ) → f ≡ k → lists_answer (length keys) slots f held ≡ lists_answer (length (map code keys)) slots k held
 listed code keys slots f k held e = rw (length-map keys code, e)
 
-pub returns-in-err-check-lists : goal.returns-in-err-check-lists
-returns-in-err-check-lists g c =
+pub returns-in_err-check_lists : goal.returns-in_err-check_lists
+returns-in_err-check_lists g c =
     let r = g.P.Policy.rules in
     let code = g.K.Key.code in
     let xs = map code c.args.keys.now in
-    let p = err_from_is_err_and c.from-residual.result c.from-residual.ensures.1 in
-    let judged = c.in-err-check-lists.ensures ∙ listed code c.args.keys.now _ _ _ _ c.frames.ensures.value in
+    let p = err_from_is_err_and c.from_residual.result c.from_residual.ensures.1 in
+    let judged = c.in_err-check_lists.ensures ∙ listed code c.args.keys.now _ _ _ _ c.frames.ensures.value in
     record {
       answer = p.1 ∙ ap Err p.2 ∙ replayed_refused r c.args.setting _ xs _ _ _ judged;
       slots = λ _. refl;
       held = λ _. refl;
     }
 
-pub count-fetches-requires : goal.count-fetches-requires
-count-fetches-requires g c =
+pub count_fetches-requires : goal.count_fetches-requires
+count_fetches-requires g c =
     let r = g.P.Policy.rules in
     let k = frames_of c.args.geometry.now in
     let b = c.frames.ensures.bounded in
-    let e = lists_enough _ _ _ _ c.in-ok-check-lists.ensures in
+    let e = lists_enough _ _ _ _ c.in_ok-check_lists.ensures in
     let m = map_of g.K.Key.code c.new-index.result in
     let places : m.places ≡ length c.args.slots.now = ap (λ (n : Map). n.places) c.new-index.ensures.map in
     let frames : r.frames (g.P.Policy.model c.new-policy.result) ≡ k = ap r.frames c.new-policy.ensures ∙ g.met.P.Policy.shape.first_frames c.args.setting k b.some in
@@ -51,10 +51,10 @@ returns g c =
     let r = g.P.Policy.rules in
     let k = frames_of c.args.geometry.now in
     let xs = map g.K.Key.code c.args.keys.now in
-    let done = c.count-fetches.ensures ∙ ap (λ s. Ok (fetches r (idle s) xs)) c.new-policy.ensures in
-    let ok : is_ok c.count-fetches.result ≡ true = ap is_ok done in
+    let done = c.count_fetches.ensures ∙ ap (λ s. Ok (fetches r (idle s) xs)) c.new-policy.ensures in
+    let ok : is_ok c.count_fetches.result ≡ true = ap is_ok done in
     record {
-      answer = done ∙ sym (replayed_accepted r c.args.setting _ xs _ _ (c.in-ok-check-lists.ensures ∙ listed g.K.Key.code c.args.keys.now _ _ _ _ c.frames.ensures.value));
+      answer = done ∙ sym (replayed_accepted r c.args.setting _ xs _ _ (c.in_ok-check_lists.ensures ∙ listed g.K.Key.code c.args.keys.now _ _ _ _ c.frames.ensures.value));
       slots = λ e. absurd (true≢false (sym ok ∙ e));
       held = λ e. absurd (true≢false (sym ok ∙ e));
     }

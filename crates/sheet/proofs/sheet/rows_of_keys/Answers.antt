@@ -16,19 +16,19 @@ rows_more touches rows i row l long e q =
     take_more_set rows i row (omega arith) ∙ ap (λ w. w ++ (row ∷ [])) q ∙
     ap (λ (x : Row). take i ms ++ (x ∷ [])) (e ∙ sym (get_or-map (row_of touches) frame_counts i 0 row l)) ∙ sym (take_more ms i row l)
 
-pub returns-in-err-geometry : goal.returns-in-err-geometry
-returns-in-err-geometry c =
+pub returns-in_err-geometry : goal.returns-in_err-geometry
+returns-in_err-geometry c =
     let w = counts_within c.loop-i.i c.loop-i-test.true in
-    absurd (geometry_accepted (get_or frame_counts c.loop-i.i 0) _ _ w.0 w.1 c.new.ensures c.in-err-geometry.was)
+    absurd (geometry_accepted (get_or frame_counts c.loop-i.i 0) _ _ w.0 w.1 c.new.ensures c.in_err-geometry.was)
 
 pub loop-i-preserved : goal.loop-i-preserved
 loop-i-preserved c =
     let i = c.loop-i.i in
     let w = counts_within i c.loop-i-test.true in
     let touches = map volume_code c.args.keys.now in
-    let frames = geometry_frames (get_or frame_counts i 0) _ _ w.0 w.1 c.new.ensures c.in-ok-geometry.was in
-    let row = same_ok _ _ (sym c.in-ok-rows.was ∙ c.row-of-keys.ensures) ∙ ap (row_of touches) frames in
-    (length-set c.loop-i.rows i c.in-ok-rows.field-0 ∙ c.loop-i.invariant.0, rows_more touches c.loop-i.rows i c.in-ok-rows.field-0 c.loop-i-test.true c.loop-i.invariant.0 row c.loop-i.invariant.1)
+    let frames = geometry_frames (get_or frame_counts i 0) _ _ w.0 w.1 c.new.ensures c.in_ok-geometry.was in
+    let row = same_ok _ _ (sym c.in_ok-rows.was ∙ c.row_of_keys.ensures) ∙ ap (row_of touches) frames in
+    (length-set c.loop-i.rows i c.in_ok-rows.field-0 ∙ c.loop-i.invariant.0, rows_more touches c.loop-i.rows i c.in_ok-rows.field-0 c.loop-i-test.true c.loop-i.invariant.0 row c.loop-i.invariant.1)
 
 pub returns : goal.returns
 returns c =

@@ -20,18 +20,18 @@ returns c =
     let text = c.args.text.now in
     let lent : Lent = record { keys = length c.args.keys.now; slots = length c.args.slots.now; next = length c.args.next.now; held = length c.args.held.now; serving = length c.args.serving.now } in
     let er = c.min-room.ensures ∙ ap (λ n. min n (length c.args.serving.now)) (c.min-2.ensures ∙ ap (λ n. min n (length c.args.next.now)) c.min.ensures) in
-    let q = counted_some (judged text (room lent)) _ (c.in-ok-judge-trace.ensures ∙ ap (λ n. counted (judged text n)) er) in
+    let q = counted_some (judged text (room lent)) _ (c.in_ok-judge_trace.ensures ∙ ap (λ n. counted (judged text n)) er) in
     let ts = q.0 in
     let more = judged_more text (room lent) lent.keys ts (omega arith) q.1 in
     let tf = fits text lent ts q.1 c.if-held-lt64.false in
-    let written = c.in-ok-touches.ensures.keys in
-    let count = same_touches _ _ (c.in-ok-touches.ensures.answer ∙ ap counted more.0) in
-    let filled = subst (λ (r : Result (List ℕ) ReplayFault). Written r c.args.keys.now c.read-trace.new.keys) more.0 written in
-    let part : map volume_code (take (c.in-ok-touches.touches - 0) c.read-trace.new.keys) ≡ ts =
-    ap (λ n. map volume_code (take n c.read-trace.new.keys)) (let z : c.in-ok-touches.touches - 0 ≡ length ts = omega (arith, count) in z) ∙ filled.first in
-    let rows = same_ok _ _ c.in-ok-rows.ensures ∙ ap (λ (w : List ℕ). map (row_of w) frame_counts) part in
+    let written = c.in_ok-touches.ensures.keys in
+    let count = same_touches _ _ (c.in_ok-touches.ensures.answer ∙ ap counted more.0) in
+    let filled = subst (λ (r : Result (List ℕ) ReplayFault). Written r c.args.keys.now c.read_trace.new.keys) more.0 written in
+    let part : map volume_code (take (c.in_ok-touches.touches - 0) c.read_trace.new.keys) ≡ ts =
+    ap (λ n. map volume_code (take n c.read_trace.new.keys)) (let z : c.in_ok-touches.touches - 0 ≡ length ts = omega (arith, count) in z) ∙ filled.first in
+    let rows = same_ok _ _ c.in_ok-rows.ensures ∙ ap (λ (w : List ℕ). map (row_of w) frame_counts) part in
     record {
       answer = ap Ok rows ∙ sym (sheet_fits text lent ts tf);
-      keys = subst (λ (r : Result (List ℕ) ReplayFault). Written r c.args.keys.now c.read-trace.new.keys) (sym tf) filled;
+      keys = subst (λ (r : Result (List ℕ) ReplayFault). Written r c.args.keys.now c.read_trace.new.keys) (sym tf) filled;
       refused = λ e. absurd (true≢false e);
     }

@@ -5,8 +5,8 @@ use Rattle.cache.proofs.Takings.{taken_more, flush_step}
 use Rattle.cache.proofs.Flushes.{Flushing, flushing_at, flushed_more, flushed_is}
 use Rattle.cache.proofs.cache.Cache.flush.Goals as goal
 
-pub write-back-requires : goal.write-back-requires
-write-back-requires g c =
+pub write_back-requires : goal.write_back-requires
+write_back-requires g c =
     let r = g.P.Policy.rules in let shape = g.met.P.Policy.shape in
     let v = view g.D.Disk g.P.Policy c.args.self.now in
     let w = view g.D.Disk g.P.Policy c.loop-place.self in
@@ -22,7 +22,7 @@ write-back-requires g c =
 
 pub loop-place-preserved : goal.loop-place-preserved
 loop-place-preserved g c =
-    (c.write-back.ensures.under, flushed_more _ (view g.D.Disk g.P.Policy c.loop-place.self) _ c.loop-place.place c.loop-place.invariant.1 c.write-back.ensures.after)
+    (c.write_back.ensures.under, flushed_more _ (view g.D.Disk g.P.Policy c.loop-place.self) _ c.loop-place.place c.loop-place.invariant.1 c.write_back.ensures.after)
 
 pub returns : goal.returns
 returns g c =

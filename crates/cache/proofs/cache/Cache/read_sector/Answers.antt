@@ -32,11 +32,11 @@ returns-then-buffer-ne512 g c =
       takes = λ o es t. taken_more r o es v v _ t (read_step r v v x b _ answers done b fills after);
     }
 
-pub returns-in-err-place : goal.returns-in-err-place
-returns-in-err-place g c =
-    let q = asked g (goal.at.returns-in-err-place g c).After-touch in
-    let p = err_from_is_err_and c.from-residual.result c.from-residual.ensures.1 in
-    let refused = sym c.in-err-place.was ∙ c.touch.ensures.answers in
+pub returns-in_err-place : goal.returns-in_err-place
+returns-in_err-place g c =
+    let q = asked g (goal.at.returns-in_err-place g c).After-touch in
+    let p = err_from_is_err_and c.from_residual.result c.from_residual.ensures.1 in
+    let refused = sym c.in_err-place.was ∙ c.touch.ensures.answers in
     let answers = p.1 ∙ ap Err p.2 ∙ refused_answer q _ refused in
     let done = turned q _ refl refl refl refl in
     record {
@@ -48,19 +48,19 @@ returns-in-err-place g c =
       takes = λ o es t. taken_more g.P.Policy.rules o es _ _ _ t (read_step g.P.Policy.rules _ _ _ _ _ answers done _ (refused_fills q _ refused) (refused_read q _ refused));
     }
 
-pub copy-out-requires : goal.copy-out-requires
-copy-out-requires g c =
-    let q = asked g (goal.at.copy-out-requires g c).After-touch in
-    (place_72 q _ (sym c.in-ok-place.was ∙ c.touch.ensures.answers), q.long)
+pub copy_out-requires : goal.copy_out-requires
+copy_out-requires g c =
+    let q = asked g (goal.at.copy_out-requires g c).After-touch in
+    (place_72 q _ (sym c.in_ok-place.was ∙ c.touch.ensures.answers), q.long)
 
 pub returns : goal.returns
 returns g c =
     let q = asked g (goal.at.returns g c).After-touch in
-    let accepted = sym c.in-ok-place.was ∙ c.touch.ensures.answers in
-    let n = c.saturating-add-self.result in
+    let accepted = sym c.in_ok-place.was ∙ c.touch.ensures.answers in
+    let n = c.saturating_add-self.result in
     let answers = accepted_answer q _ accepted in
-    let after = read_after q _ accepted n c.saturating-add-self.ensures in
-    let fills = c.copy-out.ensures ∙ read_fills q _ accepted in
+    let after = read_after q _ accepted n c.saturating_add-self.ensures in
+    let fills = c.copy_out.ensures ∙ read_fills q _ accepted in
     let done = turned q (reading (view g.D.Disk g.P.Policy c.touch.new.self) n) refl refl refl refl in
     record {
       kept = record { under = c.touch.ensures.under; own = read_sound q _ accepted n };

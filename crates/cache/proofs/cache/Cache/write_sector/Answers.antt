@@ -30,11 +30,11 @@ returns-then-buffer-ne512 g c =
       takes = λ o es t. taken_more r o es v v _ t (write_step r v v x b _ answers done after);
     }
 
-pub returns-in-err-place : goal.returns-in-err-place
-returns-in-err-place g c =
-    let q = asked g (goal.at.returns-in-err-place g c).After-touch in
-    let p = err_from_is_err_and c.from-residual.result c.from-residual.ensures.1 in
-    let refused = sym c.in-err-place.was ∙ c.touch.ensures.answers in
+pub returns-in_err-place : goal.returns-in_err-place
+returns-in_err-place g c =
+    let q = asked g (goal.at.returns-in_err-place g c).After-touch in
+    let p = err_from_is_err_and c.from_residual.result c.from_residual.ensures.1 in
+    let refused = sym c.in_err-place.was ∙ c.touch.ensures.answers in
     let answers = p.1 ∙ ap Err p.2 ∙ refused_answer q _ refused in
     let done = turned q _ refl refl refl refl in
     record {
@@ -45,21 +45,21 @@ returns-in-err-place g c =
       takes = λ o es t. taken_more g.P.Policy.rules o es _ _ _ t (write_step g.P.Policy.rules _ _ _ _ _ answers done (refused_write q _ refused));
     }
 
-pub copy-in-requires : goal.copy-in-requires
-copy-in-requires g c =
-    let q = asked g (goal.at.copy-in-requires g c).After-touch in
-    (place_72 q _ (sym c.in-ok-place.was ∙ c.touch.ensures.answers), q.long)
+pub copy_in-requires : goal.copy_in-requires
+copy_in-requires g c =
+    let q = asked g (goal.at.copy_in-requires g c).After-touch in
+    (place_72 q _ (sym c.in_ok-place.was ∙ c.touch.ensures.answers), q.long)
 
 pub returns : goal.returns
 returns g c =
     let q = asked g (goal.at.returns g c).After-touch in
-    let accepted = sym c.in-ok-place.was ∙ c.touch.ensures.answers in
-    let n = c.saturating-add-self.result in
+    let accepted = sym c.in_ok-place.was ∙ c.touch.ensures.answers in
+    let n = c.saturating_add-self.result in
     let answers = accepted_answer q _ accepted in
-    let after = write_after q _ accepted _ c.copy-in.ensures n c.saturating-add-self.ensures in
-    let done = write_turned q _ accepted _ c.copy-in.ensures n in
+    let after = write_after q _ accepted _ c.copy_in.ensures n c.saturating_add-self.ensures in
+    let done = write_turned q _ accepted _ c.copy_in.ensures n in
     record {
-      kept = record { under = c.touch.ensures.under; own = write_sound q _ accepted _ c.copy-in.ensures n };
+      kept = record { under = c.touch.ensures.under; own = write_sound q _ accepted _ c.copy_in.ensures n };
       answers = answers;
       after = after;
       turned = done;

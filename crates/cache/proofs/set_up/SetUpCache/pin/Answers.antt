@@ -31,7 +31,7 @@ returns-then-self-pins g c =
     let q = c.requires in
     let m = g.D.Disk.meaning s.below in
     let low : c.args.sector < m.count = rw (← c.count.ensures.value) c.if-sector-count.false in
-    let out = found_none (held s.store) c.args.sector c.in-default.ensures in
+    let out = found_none (held s.store) c.args.sector c.in_default.ensures in
     let full : ltb s.store.pinned (pins_of s.geometry) ≡ false = le-ltb _ _ (omega (arith, c.pins.ensures.value)) in
     let is = pin_full r g.met.P.Policy.shape m _ s.store q.own q.unfilled q.clean c.args.sector (pins_of s.geometry) (lt-ltb _ _ low) out full in
     record {
@@ -40,19 +40,19 @@ returns-then-self-pins g c =
       pinned = pin_refused r g.met.P.Policy.shape m _ s.store q.own q.unfilled q.clean c.args.sector (pins_of s.geometry) _ m refl (sym is);
     }
 
-pub returns-in-err-read : goal.returns-in-err-read
-returns-in-err-read g c =
+pub returns-in_err-read : goal.returns-in_err-read
+returns-in_err-read g c =
     let r = g.P.Policy.rules in
     let s = c.args.self.now in
     let q = c.requires in
     let m = g.D.Disk.meaning s.below in
     let x = c.args.sector in
     let low : x < m.count = rw (← c.count.ensures.value) c.if-sector-count.false in
-    let out = found_none (held s.store) x c.in-default.ensures in
+    let out = found_none (held s.store) x c.in_default.ensures in
     let free : ltb s.store.pinned (pins_of s.geometry) ≡ true = lt-ltb _ _ (omega (arith, c.pins.ensures.value)) in
     let is = pin_read r g.met.P.Policy.shape m _ s.store q.own q.unfilled q.clean x (pins_of s.geometry) (lt-ltb _ _ low) out free in
-    let p = err_from_is_err_and c.from-residual.result c.from-residual.ensures.1 in
-    let err = sym c.in-err-read.was ∙ c.read.ensures.answers in
+    let p = err_from_is_err_and c.from_residual.result c.from_residual.ensures.1 in
+    let err = sym c.in_err-read.was ∙ c.read.ensures.answers in
     let off : serves m x 512 ≡ false = refused m x 512 _ err in
     let same : g.D.Disk.meaning c.read.new.self ≡ m = rw off at c.read.ensures.after in
     let done = pin_left r g.met.P.Policy.shape m _ s.store q.own q.unfilled q.clean x (pins_of s.geometry) _ _ _ same (p.1 ∙ ap Err p.2) (err ∙ sym is) in
@@ -77,11 +77,11 @@ returns g c =
     let m = g.D.Disk.meaning s.below in
     let x = c.args.sector in
     let low : x < m.count = rw (← c.count.ensures.value) c.if-sector-count.false in
-    let out = found_none (held s.store) x c.in-default.ensures in
+    let out = found_none (held s.store) x c.in_default.ensures in
     let free : ltb s.store.pinned (pins_of s.geometry) ≡ true = lt-ltb _ _ (omega (arith, c.pins.ensures.value)) in
     let room : s.store.pinned < 8 = omega (arith, c.pins.ensures.value, c.pins.ensures.bounded.few, c.if-self-pins.false) in
     let is = pin_read r g.met.P.Policy.shape m _ s.store q.own q.unfilled q.clean x (pins_of s.geometry) (lt-ltb _ _ low) out free in
-    let ok = sym c.in-ok-read.was ∙ c.read.ensures.answers in
+    let ok = sym c.in_ok-read.was ∙ c.read.ensures.answers in
     let served : serves m x 512 ≡ true = sym (ap is_ok ok) in
     let done = pin_done r g.met.P.Policy.shape m _ s.store q.own q.unfilled q.clean x (pins_of s.geometry) out room served _ _ _
     (rw served at c.read.ensures.after) c.pin.ensures (rw served at c.read.ensures.fills) (ok ∙ sym is) in

@@ -46,60 +46,60 @@ bounded r law c touches frames k h p f one fits ep ef o =
       under = subst (λ (q : Plan). f ≤ q.ceiling) (sym ep) (under_ceiling k h (min_fetches h [] touches) f one fits (bound (min_fetches h [] touches) (subst (λ (q : Plan). Demand h [] touches q.fetches) ep o.schedule)));
     }
 
-pub returns-in-err-check-plan : goal.returns-in-err-check-plan
-returns-in-err-check-plan g c =
+pub returns-in_err-check_plan : goal.returns-in_err-check_plan
+returns-in_err-check_plan g c =
     let lent : Places = record { slots = length c.args.slots.now; next = length c.args.next.now; held = length c.args.held.now; serving = length c.args.serving.now } in
     let code = g.K.Key.code in
     let keys = c.args.keys.now in
     let touches = map code keys in
     let k = c.args.frames in
     let h = c.args.smaller in
-    let p = err_from_is_err_and c.from-residual.result c.from-residual.ensures.1 in
-    let judged = c.in-err-check-plan.ensures ∙ judged_by code keys k h _ lent c.max.ensures in
+    let p = err_from_is_err_and c.from_residual.result c.from_residual.ensures.1 in
+    let judged = c.in_err-check_plan.ensures ∙ judged_by code keys k h _ lent c.max.ensures in
     record {
       answer = p.1 ∙ ap Err p.2 ∙ forecast_refused g.P.Policy.rules c.args.setting touches k h lent _ judged;
       serving = sym (cond-false _ _ _ (ap is_ok p.1));
-      bounded = IfOk-from_err _ _ c.from-residual.ensures.0;
+      bounded = IfOk-from_err _ _ c.from_residual.ensures.0;
       competitive = competitive g.P.Policy.rules g.met.P.Policy.conservative;
       refused = λ _. (refl, refl, refl);
     }
 
-pub returns-in-err-plan : goal.returns-in-err-plan
-returns-in-err-plan g c =
+pub returns-in_err-plan : goal.returns-in_err-plan
+returns-in_err-plan g c =
     let lent : Places = record { slots = length c.args.slots.now; next = length c.args.next.now; held = length c.args.held.now; serving = length c.args.serving.now } in
     let code = g.K.Key.code in
     let keys = c.args.keys.now in
     let touches = map code keys in
     let k = c.args.frames in
     let h = c.args.smaller in
-    let p = passed_by code keys k h _ lent c.max.ensures c.in-ok-check-plan.ensures in
-    let planned' = c.plan-touches.ensures.answer ∙ planned_accepted touches k h lent (plan_passes (length touches) k h lent p) in
-    absurd (never _ (plan_of touches k h) (sym c.in-err-plan.was ∙ planned'))
+    let p = passed_by code keys k h _ lent c.max.ensures c.in_ok-check_plan.ensures in
+    let planned' = c.plan_touches.ensures.answer ∙ planned_accepted touches k h lent (plan_passes (length touches) k h lent p) in
+    absurd (never _ (plan_of touches k h) (sym c.in_err-plan.was ∙ planned'))
 
-pub returns-in-err-geometry : goal.returns-in-err-geometry
-returns-in-err-geometry g c =
+pub returns-in_err-geometry : goal.returns-in_err-geometry
+returns-in_err-geometry g c =
     let lent : Places = record { slots = length c.args.slots.now; next = length c.args.next.now; held = length c.args.held.now; serving = length c.args.serving.now } in
     let code = g.K.Key.code in
     let keys = c.args.keys.now in
     let touches = map code keys in
     let k = c.args.frames in
     let h = c.args.smaller in
-    let p = passed_by code keys k h _ lent c.max.ensures c.in-ok-check-plan.ensures in
-    absurd (geometry_accepted k _ _ p.frames.0 p.frames.1 c.new.ensures c.in-err-geometry.was)
+    let p = passed_by code keys k h _ lent c.max.ensures c.in_ok-check_plan.ensures in
+    absurd (geometry_accepted k _ _ p.frames.0 p.frames.1 c.new.ensures c.in_err-geometry.was)
 
-pub returns-in-err-fetches : goal.returns-in-err-fetches
-returns-in-err-fetches g c =
+pub returns-in_err-fetches : goal.returns-in_err-fetches
+returns-in_err-fetches g c =
     let lent : Places = record { slots = length c.args.slots.now; next = length c.args.next.now; held = length c.args.held.now; serving = length c.args.serving.now } in
     let code = g.K.Key.code in
     let keys = c.args.keys.now in
     let touches = map code keys in
     let k = c.args.frames in
     let h = c.args.smaller in
-    let p = passed_by code keys k h _ lent c.max.ensures c.in-ok-check-plan.ensures in
-    let geometry = geometry_frames k _ _ p.frames.0 p.frames.1 c.new.ensures c.in-ok-geometry.was in
+    let p = passed_by code keys k h _ lent c.max.ensures c.in_ok-check_plan.ensures in
+    let geometry = geometry_frames k _ _ p.frames.0 p.frames.1 c.new.ensures c.in_ok-geometry.was in
     let replayed' = c.replay.ensures.answer ∙
-    replay_by g.P.Policy.rules c.args.setting touches k h _ _ _ lent p geometry c.plan-touches.auto.slots c.plan-touches.auto.held in
-    absurd (never _ (fetches g.P.Policy.rules (start g.P.Policy.rules c.args.setting k) touches) (sym c.in-err-fetches.was ∙ replayed'))
+    replay_by g.P.Policy.rules c.args.setting touches k h _ _ _ lent p geometry c.plan_touches.auto.slots c.plan_touches.auto.held in
+    absurd (never _ (fetches g.P.Policy.rules (start g.P.Policy.rules c.args.setting k) touches) (sym c.in_err-fetches.was ∙ replayed'))
 
 pub returns : goal.returns
 returns g c =
@@ -109,20 +109,20 @@ returns g c =
     let touches = map code keys in
     let k = c.args.frames in
     let h = c.args.smaller in
-    let p = passed_by code keys k h _ lent c.max.ensures c.in-ok-check-plan.ensures in
-    let planned' = c.plan-touches.ensures.answer ∙ planned_accepted touches k h lent (plan_passes (length touches) k h lent p) in
-    let geometry = geometry_frames k _ _ p.frames.0 p.frames.1 c.new.ensures c.in-ok-geometry.was in
+    let p = passed_by code keys k h _ lent c.max.ensures c.in_ok-check_plan.ensures in
+    let planned' = c.plan_touches.ensures.answer ∙ planned_accepted touches k h lent (plan_passes (length touches) k h lent p) in
+    let geometry = geometry_frames k _ _ p.frames.0 p.frames.1 c.new.ensures c.in_ok-geometry.was in
     let replayed' = c.replay.ensures.answer ∙
-    replay_by g.P.Policy.rules c.args.setting touches k h _ _ _ lent p geometry c.plan-touches.auto.slots c.plan-touches.auto.held in
-    let plan = same_ok _ _ (sym c.in-ok-plan.was ∙ planned') in
-    let count = same_ok _ _ (sym c.in-ok-fetches.was ∙ replayed') in
-    let judged = c.in-ok-check-plan.ensures ∙ judged_by code keys k h _ lent c.max.ensures in
-    let accepted : is_ok c.plan-touches.result ≡ true = ap is_ok c.in-ok-plan.was in
+    replay_by g.P.Policy.rules c.args.setting touches k h _ _ _ lent p geometry c.plan_touches.auto.slots c.plan_touches.auto.held in
+    let plan = same_ok _ _ (sym c.in_ok-plan.was ∙ planned') in
+    let count = same_ok _ _ (sym c.in_ok-fetches.was ∙ replayed') in
+    let judged = c.in_ok-check_plan.ensures ∙ judged_by code keys k h _ lent c.max.ensures in
+    let accepted : is_ok c.plan_touches.result ≡ true = ap is_ok c.in_ok-plan.was in
     record {
       answer = ap Ok (forecast_same _ _ _ _ plan count) ∙ sym (forecast_accepted g.P.Policy.rules c.args.setting touches k h lent judged);
-      serving = c.plan-touches.ensures.serving ∙ cond-true _ _ _ accepted;
+      serving = c.plan_touches.ensures.serving ∙ cond-true _ _ _ accepted;
       bounded = bounded g.P.Policy.rules g.met.P.Policy.conservative c.args.setting touches _ k h _ _ p.smaller.0 p.smaller.1 plan count
-          (IfOk-at_ok _ c.in-ok-plan.was c.plan-touches.ensures.optimal);
+          (IfOk-at_ok _ c.in_ok-plan.was c.plan_touches.ensures.optimal);
       competitive = competitive g.P.Policy.rules g.met.P.Policy.conservative;
       refused = λ e. absurd (true≢false e);
     }

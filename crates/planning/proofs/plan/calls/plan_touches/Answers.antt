@@ -21,41 +21,41 @@ serves_length h keys (x ∷ rest) = ap suc (serves_length h (min_keys h keys x r
 plan_same : (c d e k h : ℕ) → c ≡ ceiling k h d → d ≡ e → ◌≡◌ {A = Plan} (record { ceiling = c; fetches = d }) (record { ceiling = ceiling k h e; fetches = e })
 plan_same c d e k h ec ed = rw (ec, ed)
 
-pub returns-in-err-check-plan : goal.returns-in-err-check-plan
-returns-in-err-check-plan g c =
+pub returns-in_err-check_plan : goal.returns-in_err-check_plan
+returns-in_err-check_plan g c =
     let lent : Places = record { slots = length c.args.slots.now; next = length c.args.next.now; held = length c.args.held.now; serving = length c.args.serving.now } in
     let touches = map g.K.Key.code c.args.keys.now in
     let k = c.args.frames in
     let h = c.args.smaller in
-    let p = err_from_is_err_and c.from-residual.result c.from-residual.ensures.1 in
-    let judged = c.in-err-check-plan.ensures ∙ ap (λ n. plan_answer n k h h lent) (sym (length-map c.args.keys.now g.K.Key.code)) in
-    let no-plan : is_ok c.from-residual.result ≡ false = ap is_ok p.1 in
+    let p = err_from_is_err_and c.from_residual.result c.from_residual.ensures.1 in
+    let judged = c.in_err-check_plan.ensures ∙ ap (λ n. plan_answer n k h h lent) (sym (length-map c.args.keys.now g.K.Key.code)) in
+    let no-plan : is_ok c.from_residual.result ≡ false = ap is_ok p.1 in
     record {
       answer = p.1 ∙ ap Err p.2 ∙ planned_refused touches k h lent _ judged;
       serving = sym (cond-false _ _ _ no-plan);
-      optimal = IfOk-from_err _ _ c.from-residual.ensures.0;
+      optimal = IfOk-from_err _ _ c.from_residual.ensures.0;
       schedules = served;
       refused = λ _. (refl, refl, refl);
     }
 
-pub run-min-requires : goal.run-min-requires
-run-min-requires g c =
+pub run_min-requires : goal.run_min-requires
+run_min-requires g c =
     let lent : Places = record { slots = length c.args.slots.now; next = length c.args.next.now; held = length c.args.held.now; serving = length c.args.serving.now } in
-    let p = plan_passed (length c.args.keys.now) c.args.frames c.args.smaller c.args.smaller lent c.in-ok-check-plan.ensures in
+    let p = plan_passed (length c.args.keys.now) c.args.frames c.args.smaller c.args.smaller lent c.in_ok-check_plan.ensures in
     record {
       frames = (p.smaller.0, (omega (arith, p.smaller, p.frames), p.held_for));
-      few = (p.few, (omega (arith, p.slots_for, c.find-next.auto.slots), (omega (arith, p.next_for, c.find-next.auto.next), p.serving_for)));
-      next = c.find-next.ensures.next;
+      few = (p.few, (omega (arith, p.slots_for, c.find_next.auto.slots), (omega (arith, p.next_for, c.find_next.auto.next), p.serving_for)));
+      next = c.find_next.ensures.next;
     }
 
-pub overflow-cast-ceiling : goal.overflow-cast-ceiling
-overflow-cast-ceiling g c =
+pub overflow_cast-ceiling : goal.overflow_cast-ceiling
+overflow_cast-ceiling g c =
     let lent : Places = record { slots = length c.args.slots.now; next = length c.args.next.now; held = length c.args.held.now; serving = length c.args.serving.now } in
-    let p = plan_passed (length c.args.keys.now) c.args.frames c.args.smaller c.args.smaller lent c.in-ok-check-plan.ensures in
+    let p = plan_passed (length c.args.keys.now) c.args.frames c.args.smaller c.args.smaller lent c.in_ok-check_plan.ensures in
     let touches = map g.K.Key.code c.args.keys.now in
-    let d = same_ok _ _ c.in-ok-fetches.ensures.answer in
-    let few : c.in-ok-fetches.fetches ≤ 4096 = omega (arith, d, min_most c.args.smaller [] touches, length-map c.args.keys.now g.K.Key.code, p.few) in
-    omega (arith, c.ceiling-ceiling.ensures, ceiling_fits c.args.frames c.args.smaller c.in-ok-fetches.fetches p.frames.1 few)
+    let d = same_ok _ _ c.in_ok-fetches.ensures.answer in
+    let few : c.in_ok-fetches.fetches ≤ 4096 = omega (arith, d, min_most c.args.smaller [] touches, length-map c.args.keys.now g.K.Key.code, p.few) in
+    omega (arith, c.ceiling-ceiling.ensures, ceiling_fits c.args.frames c.args.smaller c.in_ok-fetches.fetches p.frames.1 few)
 
 pub returns : goal.returns
 returns g c =
@@ -64,16 +64,16 @@ returns g c =
     let touches = map g.K.Key.code keys in
     let k = c.args.frames in
     let h = c.args.smaller in
-    let p = plan_passed (length keys) k h h lent c.in-ok-check-plan.ensures in
-    let d = same_ok _ _ c.in-ok-fetches.ensures.answer in
-    let judged = c.in-ok-check-plan.ensures ∙ ap (λ n. plan_answer n k h h lent) (sym (length-map keys g.K.Key.code)) in
+    let p = plan_passed (length keys) k h h lent c.in_ok-check_plan.ensures in
+    let d = same_ok _ _ c.in_ok-fetches.ensures.answer in
+    let judged = c.in_ok-check_plan.ensures ∙ ap (λ n. plan_answer n k h h lent) (sym (length-map keys g.K.Key.code)) in
     let serves = min_serves h [] touches in
-    let front : take (length keys) c.run-min.new.serving ≡ serves =
-    ap (take (length keys)) c.run-min.ensures.serving ∙ take_at serves (drop (length keys) c.args.serving.now) (length keys) (serves_length h [] touches ∙ length-map keys g.K.Key.code) in
+    let front : take (length keys) c.run_min.new.serving ≡ serves =
+    ap (take (length keys)) c.run_min.ensures.serving ∙ take_at serves (drop (length keys) c.args.serving.now) (length keys) (serves_length h [] touches ∙ length-map keys g.K.Key.code) in
     record {
       answer = ap Ok (plan_same _ _ _ k h c.ceiling-ceiling.ensures d) ∙ sym (planned_accepted touches k h lent judged);
-      serving = c.run-min.ensures.serving;
-      optimal = subst (λ (w : List ℕ). Optimal h touches w c.in-ok-fetches.fetches) (sym front) (subst (Optimal h touches serves) (sym d) (min_optimal h p.smaller.0 touches));
+      serving = c.run_min.ensures.serving;
+      optimal = subst (λ (w : List ℕ). Optimal h touches w c.in_ok-fetches.fetches) (sym front) (subst (Optimal h touches serves) (sym d) (min_optimal h p.smaller.0 touches));
       schedules = served;
       refused = λ e. absurd (true≢false e);
     }

@@ -3,8 +3,8 @@ use Rattle.index.specs.Maps.{Map, empty}
 use Rattle.index.specs.Slots.{map_of}
 use Rattle.planning.proofs.plan.calls.run_min.Goals as goal
 
-pub serve-touches-requires : goal.serve-touches-requires
-serve-touches-requires g c =
+pub serve_touches-requires : goal.serve_touches-requires
+serve_touches-requires g c =
     let m = map_of g.K.Key.code c.new-index.result in
     let places : m.places ≡ length c.args.slots.now = ap (λ (n : Map). n.places) c.new-index.ensures.map in
     record {

@@ -24,40 +24,40 @@ row_same : (touches : List ℕ) (f k l i c m : ℕ) → f ≡ k → l ≡ fetche
     ◌≡◌ {A = Row} (record { frames = f; lru = l; fifo = i; clock = c; min = m }) (row_of touches k)
 row_same touches f k l i c m ef el ei ec em = rw (el, ei, ec, em, ef)
 
-pub returns-in-err-lru : goal.returns-in-err-lru
-returns-in-err-lru g c =
+pub returns-in_err-lru : goal.returns-in_err-lru
+returns-in_err-lru g c =
     let keys = c.args.keys.now in
     let b = c.frames-frames.ensures.bounded in
     let p = c.requires.few in
     let w = wide _ _ _ _ _ _ _ _ (length-map keys g.K.Key.code) p.0 p.1.0 p.1.1.0 c.requires.held p.1.1.1 refl refl in
-    absurd (never _ _ (sym c.in-err-lru.was ∙ c.replay.ensures.answer ∙ replay_counts _ _ _ _ _ _ b.some b.most w lru_rules tt))
+    absurd (never _ _ (sym c.in_err-lru.was ∙ c.replay.ensures.answer ∙ replay_counts _ _ _ _ _ _ b.some b.most w lru_rules tt))
 
-pub returns-in-err-fifo : goal.returns-in-err-fifo
-returns-in-err-fifo g c =
+pub returns-in_err-fifo : goal.returns-in_err-fifo
+returns-in_err-fifo g c =
     let keys = c.args.keys.now in
     let b = c.frames-frames.ensures.bounded in
     let p = c.requires.few in
     let w = wide _ _ _ _ _ _ _ _ (length-map keys g.K.Key.code) p.0 p.1.0 p.1.1.0 c.requires.held p.1.1.1 c.replay.auto.slots c.replay.auto.held in
-    absurd (never _ _ (sym c.in-err-fifo.was ∙ c.replay-2.ensures.answer ∙ replay_counts _ _ _ _ _ _ b.some b.most w fifo_rules tt))
+    absurd (never _ _ (sym c.in_err-fifo.was ∙ c.replay-2.ensures.answer ∙ replay_counts _ _ _ _ _ _ b.some b.most w fifo_rules tt))
 
-pub returns-in-err-clock : goal.returns-in-err-clock
-returns-in-err-clock g c =
+pub returns-in_err-clock : goal.returns-in_err-clock
+returns-in_err-clock g c =
     let keys = c.args.keys.now in
     let b = c.frames-frames.ensures.bounded in
     let p = c.requires.few in
     let w = wide _ _ _ _ _ _ _ _ (length-map keys g.K.Key.code) p.0 p.1.0 p.1.1.0 c.requires.held p.1.1.1
     (c.replay-2.auto.slots ∙ c.replay.auto.slots) (c.replay-2.auto.held ∙ c.replay.auto.held) in
-    absurd (never _ _ (sym c.in-err-clock.was ∙ c.replay-3.ensures.answer ∙ replay_counts _ _ _ _ _ _ b.some b.most w clock_rules tt))
+    absurd (never _ _ (sym c.in_err-clock.was ∙ c.replay-3.ensures.answer ∙ replay_counts _ _ _ _ _ _ b.some b.most w clock_rules tt))
 
-pub returns-in-err-plan : goal.returns-in-err-plan
-returns-in-err-plan g c =
+pub returns-in_err-plan : goal.returns-in_err-plan
+returns-in_err-plan g c =
     let keys = c.args.keys.now in
     let b = c.frames-frames.ensures.bounded in
     let k : c.frames-frames.result ≡ frames_of c.args.geometry.now = c.frames-frames.ensures.value in
     let p = c.requires.few in
     let w = wide _ _ _ _ _ _ _ _ (length-map keys g.K.Key.code) p.0 p.1.0 p.1.1.0 c.requires.held p.1.1.1
     (c.replay-3.auto.slots ∙ c.replay-2.auto.slots ∙ c.replay.auto.slots) (c.replay-3.auto.held ∙ c.replay-2.auto.held ∙ c.replay.auto.held) in
-    absurd (never _ _ (sym c.in-err-plan.was ∙ c.plan-touches.ensures.answer ∙ plan_counts (map g.K.Key.code keys) c.frames-frames.result _ _ _ _ (omega (arith, k, b.some)) (omega (arith, k, b.most)) w))
+    absurd (never _ _ (sym c.in_err-plan.was ∙ c.plan_touches.ensures.answer ∙ plan_counts (map g.K.Key.code keys) c.frames-frames.result _ _ _ _ (omega (arith, k, b.some)) (omega (arith, k, b.most)) w))
 
 pub returns : goal.returns
 returns g c =
@@ -75,8 +75,8 @@ returns g c =
     let w1 = wide _ _ _ _ _ _ _ _ long p.0 p.1.0 p.1.1.0 c.requires.held p.1.1.1 s1 h1 in
     let w2 = wide _ _ _ _ _ _ _ _ long p.0 p.1.0 p.1.1.0 c.requires.held p.1.1.1 s2 h2 in
     let w3 = wide _ _ _ _ _ _ _ _ long p.0 p.1.0 p.1.1.0 c.requires.held p.1.1.1 (c.replay-3.auto.slots ∙ s2) (c.replay-3.auto.held ∙ h2) in
-    let lru = same_ok _ _ (sym c.in-ok-lru.was ∙ c.replay.ensures.answer ∙ replay_counts _ _ _ _ _ _ b.some b.most w0 lru_rules tt) in
-    let fifo = same_ok _ _ (sym c.in-ok-fifo.was ∙ c.replay-2.ensures.answer ∙ replay_counts _ _ _ _ _ _ b.some b.most w1 fifo_rules tt) in
-    let clock = same_ok _ _ (sym c.in-ok-clock.was ∙ c.replay-3.ensures.answer ∙ replay_counts _ _ _ _ _ _ b.some b.most w2 clock_rules tt) in
-    let plan = same_ok _ _ (sym c.in-ok-plan.was ∙ c.plan-touches.ensures.answer ∙ plan_counts (map g.K.Key.code keys) c.frames-frames.result _ _ _ _ (omega (arith, k, b.some)) (omega (arith, k, b.most)) w3) in
+    let lru = same_ok _ _ (sym c.in_ok-lru.was ∙ c.replay.ensures.answer ∙ replay_counts _ _ _ _ _ _ b.some b.most w0 lru_rules tt) in
+    let fifo = same_ok _ _ (sym c.in_ok-fifo.was ∙ c.replay-2.ensures.answer ∙ replay_counts _ _ _ _ _ _ b.some b.most w1 fifo_rules tt) in
+    let clock = same_ok _ _ (sym c.in_ok-clock.was ∙ c.replay-3.ensures.answer ∙ replay_counts _ _ _ _ _ _ b.some b.most w2 clock_rules tt) in
+    let plan = same_ok _ _ (sym c.in_ok-plan.was ∙ c.plan_touches.ensures.answer ∙ plan_counts (map g.K.Key.code keys) c.frames-frames.result _ _ _ _ (omega (arith, k, b.some)) (omega (arith, k, b.most)) w3) in
     ap Ok (row_same touches _ _ _ _ _ _ k lru fifo clock (ap (λ (q : Plan). q.fetches) plan))
