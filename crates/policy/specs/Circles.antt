@@ -1,7 +1,7 @@
 -- The frames in the order in which the hand reaches them. Assumes nothing.
 use Rattle.std.specs.Prelude.{◌≡◌, ℕ, zero, suc, ◌+◌, ◌-◌, ◌<◌, ◌≤◌, ◌⊎◌, List, [], ◌∷◌, ◌++◌, length, ◌≢◌, nat_lt, refl}
 use Rattle.std.proofs.Common.{ap, inl, inr, arith}
-use Rattle.std.specs.List.{AllByRecursion as All}
+use Rattle.std.specs.List.{AllByRecursion}
 use Rattle.std.proofs.lemmas.List.{append_assoc, append-nil, length-append}
 use Rattle.std.proofs.ByRecursion.{All-append, All-weaker}
 use Rattle.std.proofs.lemmas.Bool.{cases_lt, cond-true, cond-false, lt-ltb, le-ltb}
@@ -12,7 +12,7 @@ length-upward a zero = refl
 length-upward a (suc n) = ap suc (length-upward (a + 1) n)
 
 -- the numbers from a to a + n
-pub upward_within : (a n : ℕ) → All (λ x. (a ≤ x) × (x < a + n)) (upward a n)
+pub upward_within : (a n : ℕ) → AllByRecursion (λ x. (a ≤ x) × (x < a + n)) (upward a n)
 upward_within a zero = tt
 upward_within a (suc n) = (omega arith, All-weaker _ _ (λ x h. omega arith) (upward (a + 1) n) (upward_within (a + 1) n))
 
@@ -28,7 +28,7 @@ pub upward_push : (n : ℕ) → upward 0 (n + 1) ≡ upward 0 n ++ (n ∷ [])
 upward_push n = upward_append 0 n 1 n (n + 1) (omega arith) refl
 
 -- all numbers of a stretch but f
-pub others : (f a n : ℕ) → (f < a) ⊎ (a + n ≤ f) → All (λ x. x ≢ f) (upward a n)
+pub others : (f a n : ℕ) → (f < a) ⊎ (a + n ≤ f) → AllByRecursion (λ x. x ≢ f) (upward a n)
 others f a n out = All-weaker _ _ (λ x h. omega arith) (upward a n) (upward_within a n)
 
 -- the circle from h on: h, and what comes after it
@@ -52,7 +52,7 @@ circle_next size h low =
     ]
 
 -- h is not behind itself
-pub behind_others : (size h : ℕ) → All (λ x. x ≢ h) (behind size h)
+pub behind_others : (size h : ℕ) → AllByRecursion (λ x. x ≢ h) (behind size h)
 unfolding behind
 behind_others size h = All-append _ (upward (h + 1) (size - (h + 1))) (upward 0 h) (others h (h + 1) (size - (h + 1)) (inl (omega arith))) (others h 0 h (inr (omega arith)))
 
@@ -61,8 +61,8 @@ pub record Once (f : ℕ) (xs : List ℕ) : Type 0 where
   pub before : List ℕ
   pub after : List ℕ
   pub is : xs ≡ before ++ (f ∷ after)
-  pub before_others : All (λ x. x ≢ f) before
-  pub after_others : All (λ x. x ≢ f) after
+  pub before_others : AllByRecursion (λ x. x ≢ f) before
+  pub after_others : AllByRecursion (λ x. x ≢ f) after
 
 -- in a stretch that has f, and in one of two lists
 pub once_upward : (f a n : ℕ) → a ≤ f → f < a + n → Once f (upward a n)
@@ -74,7 +74,7 @@ once_upward f a n low high = record {
   after_others = others f (f + 1) (a + n - (f + 1)) (inl (omega arith));
 }
 
-once_left : (f : ℕ) (xs ys : List ℕ) → Once f xs → All (λ x. x ≢ f) ys → Once f (xs ++ ys)
+once_left : (f : ℕ) (xs ys : List ℕ) → Once f xs → AllByRecursion (λ x. x ≢ f) ys → Once f (xs ++ ys)
 once_left f xs ys o h = record {
   before = o.before;
   after = o.after ++ ys;
@@ -83,7 +83,7 @@ once_left f xs ys o h = record {
   after_others = All-append _ o.after ys o.after_others h;
 }
 
-once_right : (f : ℕ) (xs ys : List ℕ) → All (λ x. x ≢ f) xs → Once f ys → Once f (xs ++ ys)
+once_right : (f : ℕ) (xs ys : List ℕ) → AllByRecursion (λ x. x ≢ f) xs → Once f ys → Once f (xs ++ ys)
 once_right f xs ys h o = record {
   before = xs ++ o.before;
   after = o.after;
@@ -100,7 +100,7 @@ once_circle size h f low within =
       | inr more ↦ once_left f (upward h (size - h)) (upward 0 h) (once_upward f h (size - h) more (omega arith)) (others f 0 h (inr (omega arith)))
     ]
 
-pub circle_within : (size h : ℕ) → h < size → All (λ x. x < size) (circle size h)
+pub circle_within : (size h : ℕ) → h < size → AllByRecursion (λ x. x < size) (circle size h)
 circle_within size h low =
     All-append _ (upward h (size - h)) (upward 0 h)
     (All-weaker _ _ (λ x k. omega arith) (upward h (size - h)) (upward_within h (size - h)))

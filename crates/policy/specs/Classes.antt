@@ -1,7 +1,7 @@
 -- Frames in a circle, each with its count, and their order by count. Assumes nothing.
 use Rattle.std.specs.Prelude.{◌≡◌, ℕ, zero, suc, ◌+◌, ◌<◌, ◌≤◌, List, [], ◌∷◌, ◌++◌, map, length, filter, ◌==◌, ◌≢◌, nat_eq, refl}
 use Rattle.std.proofs.Common.{ap, ◌∙◌, inl, inr, arith}
-use Rattle.std.specs.List.{AllByRecursion as All}
+use Rattle.std.specs.List.{AllByRecursion}
 use Rattle.std.proofs.lemmas.List.{append_assoc, append-nil, length-append, map-append}
 use Rattle.std.proofs.lemmas.List.Elements.{filter-append}
 use Rattle.std.proofs.ByRecursion.{All-append, All-map, all_kept_by}
@@ -80,7 +80,7 @@ classes_none j zero = refl
 classes_none j (suc n) = classes_none (j + 1) n
 
 -- the order is as long as the circle
-pub length-classes : (ps : List Counted) (n : ℕ) → All (λ p. p.1 < n) ps → length (classes ps 0 n) ≡ length ps
+pub length-classes : (ps : List Counted) (n : ℕ) → AllByRecursion (λ p. p.1 < n) ps → length (classes ps 0 n) ≡ length ps
 length-classes [] n h = ap length (classes_none 0 n)
 length-classes (p ∷ ps) n h =
     let (a, b, before, after) = one_more [] ps p.0 p.1 0 n (omega arith) (omega arith) in
@@ -146,7 +146,7 @@ hindmost ps f t j zero top = rw (with_yes_at ps [] f t j (omega arith)) (simp (a
 hindmost ps f t j (suc n) top = rw (with_no_at ps [] f t j (omega arith), append-nil ps, hindmost ps f t (j + 1) n (omega arith)) (simp append_assoc)
 
 -- what holds of each frame of the circle holds of each of the order
-pub all_classes : (P : ℕ → Type 0) (ps : List Counted) (j n : ℕ) → All (λ p. P p.0) ps → All P (classes ps j n)
+pub all_classes : (P : ℕ → Type 0) (ps : List Counted) (j n : ℕ) → AllByRecursion (λ p. P p.0) ps → AllByRecursion P (classes ps j n)
 unfolding classes with_count
 all_classes P ps j zero h = tt
 all_classes P ps j (suc n) h = All-append P (with_count j ps) _ (All-map P _ _ (all_kept_by _ _ ps h)) (all_classes P ps (j + 1) n h)

@@ -1,7 +1,7 @@
 -- Membership, keys that are all different, and how many a list can have. Assumes nothing.
 use Rattle.std.specs.Prelude.{◌≡◌, ℕ, zero, suc, ◌+◌, ◌<◌, ◌≤◌, true, false, cond, ◌||◌, List, [], ◌∷◌, ◌++◌, length, ◌==◌, ◌≢◌, slice_index, slice_set, refl}
 use Rattle.std.proofs.Common.{sym, ap, inl, inr, ⊎_elim, arith}
-use Rattle.std.specs.List.{AllByRecursion as All}
+use Rattle.std.specs.List.{AllByRecursion}
 use Rattle.std.proofs.lemmas.Bool.Decides.{nat_tests}
 use Rattle.std.proofs.lemmas.Bool.{cases_Bool, or_cases, or_left, or_right, or_from, eq-eqb, eqb-true, ne_eqb}
 use Rattle.std.proofs.ByRecursion.{All-weaker}
@@ -9,10 +9,10 @@ use Rattle.base.specs.Lists.{member, place_in, distinct, Apart, without}
 
 -- every key of xs is one of ys
 abbrev pub Among : List ℕ → List ℕ → Type 0
-Among ys xs = All (λ x. member x ys ≡ true) xs
+Among ys xs = AllByRecursion (λ x. member x ys ≡ true) xs
 
 -- what holds of each element holds of a member
-pub all_member : (P : ℕ → Type 0) (xs : List ℕ) (x : ℕ) → All P xs → member x xs ≡ true → P x
+pub all_member : (P : ℕ → Type 0) (xs : List ℕ) (x : ℕ) → AllByRecursion P xs → member x xs ≡ true → P x
 all_member P [] x h e = grind arith
 all_member P (y ∷ ys) x h e =
     ⊎_elim (λ t. rw (eqb-true x y t) h.0) (λ t. all_member P ys x h.1 t) (or_cases (x == y) (member x ys) e)
@@ -27,7 +27,7 @@ member_at x [] b = or_left (x == x) _ (eq-eqb x x refl)
 member_at x (y ∷ a) b = or_right (x == y) _ (member_at x a b)
 
 -- what differs from each element is no member
-pub others_miss : (x : ℕ) (xs : List ℕ) → All (λ y. y ≢ x) xs → member x xs ≡ false
+pub others_miss : (x : ℕ) (xs : List ℕ) → AllByRecursion (λ y. y ≢ x) xs → member x xs ≡ false
 others_miss x [] h = refl
 others_miss x (y ∷ ys) h = or_from (x == y) (member x ys) (ne_eqb x y (λ e. h.0 (sym e))) (others_miss x ys h.1)
 

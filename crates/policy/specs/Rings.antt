@@ -2,7 +2,7 @@
 use Rattle.std.specs.Prelude.{◌≡◌, ℕ, zero, suc, ◌+◌, ◌-◌, ◌<◌, Bool, true, false, ◌&&◌, List, [], ◌∷◌, ◌++◌, map, length, filter, ◌≢◌, nat_eq, nat_lt, slice_index, slice_set, refl}
 use Rattle.std.proofs.Math.Path.{ap}
 use Rattle.std.proofs.Common.{ap₂, ◌∙◌, inl, inr, add-one, arith}
-use Rattle.std.specs.List.{AllByRecursion as All}
+use Rattle.std.specs.List.{AllByRecursion}
 use Rattle.std.proofs.lemmas.List.{map-append, length-map, get_or-set_same, get_or-set_other}
 use Rattle.std.proofs.lemmas.List.Elements.{filter-append}
 use Rattle.std.proofs.ByRecursion.{All-weaker, All-map}
@@ -27,13 +27,13 @@ unfolding counted
 counted_at counts xs ys f = counted_append counts xs (f ∷ ys)
 
 -- a new count of f changes nothing at the others
-counted_set : (counts xs : List ℕ) (f v : ℕ) → All (λ x. x ≢ f) xs → counted (slice_set counts f v) xs ≡ counted counts xs
+counted_set : (counts xs : List ℕ) (f v : ℕ) → AllByRecursion (λ x. x ≢ f) xs → counted (slice_set counts f v) xs ≡ counted counts xs
 unfolding counted
 counted_set counts [] f v h = refl
 counted_set counts (x ∷ xs) f v h = rw (get_or-set_other counts f x v 0 h.0, counted_set counts xs f v h.1)
 
 -- f with its new count
-counted_set_at : (counts xs ys : List ℕ) (f v : ℕ) → f < length counts → All (λ x. x ≢ f) xs → All (λ x. x ≢ f) ys → counted (slice_set counts f v) (xs ++ (f ∷ ys)) ≡ counted counts xs ++ ((f, v) ∷ counted counts ys)
+counted_set_at : (counts xs ys : List ℕ) (f v : ℕ) → f < length counts → AllByRecursion (λ x. x ≢ f) xs → AllByRecursion (λ x. x ≢ f) ys → counted (slice_set counts f v) (xs ++ (f ∷ ys)) ≡ counted counts xs ++ ((f, v) ∷ counted counts ys)
 counted_set_at counts xs ys f v low h k =
     rw (counted_at (slice_set counts f v) xs ys f, get_or-set_same counts f v 0 low, counted_set counts xs f v h, counted_set counts ys f v k)
 
@@ -75,17 +75,17 @@ order_of s fs e = order_is s ∙ ap (λ xs. classes (counted s.counts xs) 0 (suc
 
 -- the order, where f has a new count n
 pub order_set : (s : CountState) (counts xs ys : List ℕ) (f n : ℕ) → s.counts ≡ slice_set counts f n → frames s ≡ xs ++ (f ∷ ys) → f < length counts →
-    All (λ x. x ≢ f) xs → All (λ x. x ≢ f) ys → count_order s ≡ classes (counted counts xs ++ ((f, n) ∷ counted counts ys)) 0 (suc s.top)
+    AllByRecursion (λ x. x ≢ f) xs → AllByRecursion (λ x. x ≢ f) ys → count_order s ≡ classes (counted counts xs ++ ((f, n) ∷ counted counts ys)) 0 (suc s.top)
 order_set s counts xs ys f n new e low h k =
     order_of s (xs ++ (f ∷ ys)) e
     ∙ ap (λ ps. classes ps 0 (suc s.top)) (ap (λ cs. counted cs (xs ++ (f ∷ ys))) new ∙ counted_set_at counts xs ys f n low h k)
 
 -- a test that all pass, and one that none passes
-kept_all : (p : ℕ → Bool) (xs : List ℕ) → All (λ x. p x ≡ true) xs → filter p xs ≡ xs
+kept_all : (p : ℕ → Bool) (xs : List ℕ) → AllByRecursion (λ x. p x ≡ true) xs → filter p xs ≡ xs
 kept_all p [] h = refl
 kept_all p (x ∷ xs) h = rw (h.0, kept_all p xs h.1)
 
-kept_none : (p : ℕ → Bool) (xs : List ℕ) → All (λ x. p x ≡ false) xs → filter p xs ≡ []
+kept_none : (p : ℕ → Bool) (xs : List ℕ) → AllByRecursion (λ x. p x ≡ false) xs → filter p xs ≡ []
 kept_none p [] h = refl
 kept_none p (x ∷ xs) h = rw (h.0, kept_none p xs h.1)
 
@@ -107,7 +107,7 @@ frames_room s at =
 -- the filled frames are those below `filled`, each once
 pub record Below (n : ℕ) (xs : List ℕ) : Type 0 where
   pub many : length xs ≡ n
-  pub within : All (λ x. x < n) xs
+  pub within : AllByRecursion (λ x. x < n) xs
   pub once : (f : ℕ) → f < n → Once f xs
 
 pub frames_below : (s : CountState) → CountValid s → Below s.filled (frames s)
@@ -129,7 +129,7 @@ frames_below s v =
 
 -- the order has the filled frames, each once
 module _ (s : CountState) (v : CountValid s) where
-  ring_within : All (λ p. p.1 < suc s.top) (ring s)
+  ring_within : AllByRecursion (λ p. p.1 < suc s.top) (ring s)
   unfolding ring counted
   ring_within = All-map _ _ (frames s) (All-weaker _ _ (λ x _. omega (arith, v.counts_within x)) (frames s) (frames_below s v).within)
 
@@ -137,7 +137,7 @@ module _ (s : CountState) (v : CountValid s) where
   unfolding ring counted
   length-order = ap length (order_is s) ∙ length-classes (ring s) (suc s.top) ring_within ∙ length-map (frames s) _ ∙ (frames_below s v).many
 
-  pub order_within : All (λ x. x < s.filled) (count_order s)
+  pub order_within : AllByRecursion (λ x. x < s.filled) (count_order s)
   unfolding ring counted
   order_within = rw (order_is s) (all_classes _ (ring s) 0 (suc s.top) (All-map _ _ (frames s) (frames_below s v).within))
 

@@ -1,7 +1,7 @@
 -- What a touch does to the keys held and to the eviction order. Assumes nothing.
 use Rattle.std.specs.Prelude.{◌≡◌, ℕ, zero, suc, ◌+◌, ◌<◌, ◌≤◌, true, false, List, [], ◌∷◌, ◌++◌, length, drop, slice_index, slice_set, refl}
 use Rattle.std.proofs.Common.{⊎_elim, arith}
-use Rattle.std.specs.List.{AllByRecursion as All}
+use Rattle.std.specs.List.{AllByRecursion}
 use Rattle.std.proofs.lemmas.List.{length-append, length_push, length-set, get_or_append_left, get_or_push, get_or-set_same, get_or-set_other}
 use Rattle.std.proofs.ByRecursion.{All-push, All-drop, All-weaker, All-from_get_or}
 use Rattle.std.proofs.lemmas.Bool.{cases_eq}
@@ -11,23 +11,23 @@ use Rattle.policy.specs.Members.{all_member, apart_few}
 
 module _ (P : ℕ → Type 0) (f : ℕ) (p : P f) where
   -- f put in somewhere
-  all_insert : (b c : List ℕ) → All P (b ++ c) → All P (b ++ (f ∷ c))
+  all_insert : (b c : List ℕ) → AllByRecursion P (b ++ c) → AllByRecursion P (b ++ (f ∷ c))
   all_insert [] c h = (p, h)
   all_insert (y ∷ b) c h = (h.0, all_insert b c h.1)
 
-  drop-insert : (j : ℕ) (b c : List ℕ) → All P (drop j (b ++ c)) → All P (drop (suc j) (b ++ (f ∷ c)))
+  drop-insert : (j : ℕ) (b c : List ℕ) → AllByRecursion P (drop j (b ++ c)) → AllByRecursion P (drop (suc j) (b ++ (f ∷ c)))
   drop-insert j [] c h = h
   drop-insert zero (y ∷ b) c h = all_insert b c h.1
   drop-insert (suc j) (y ∷ b) c h = drop-insert j b c h
 
   -- f put in last
-  drop-push : (j : ℕ) (xs : List ℕ) → All P (drop j xs) → All P (drop j (xs ++ (f ∷ [])))
+  drop-push : (j : ℕ) (xs : List ℕ) → AllByRecursion P (drop j xs) → AllByRecursion P (drop j (xs ++ (f ∷ [])))
   drop-push zero xs h = All-push P xs f h p
   drop-push (suc j) [] h = All-drop P j [] tt
   drop-push (suc j) (x ∷ xs) h = drop-push j xs h
 
   -- f moved to a later place
-  drop-later : (j : ℕ) (a b c : List ℕ) → All P (drop j (a ++ (f ∷ (b ++ c)))) → All P (drop j (a ++ (b ++ (f ∷ c))))
+  drop-later : (j : ℕ) (a b c : List ℕ) → AllByRecursion P (drop j (a ++ (f ∷ (b ++ c)))) → AllByRecursion P (drop j (a ++ (b ++ (f ∷ c))))
   drop-later zero [] b c h = all_insert b c h.1
   drop-later (suc j) [] b c h = drop-insert j b c h
   drop-later zero (y ∷ a) b c h = (h.0, drop-later zero a b c h.1)
@@ -58,7 +58,7 @@ holds_set whole keys x g w f h = (
 
 -- all frames of the order but the first j hold keys of whole
 abbrev pub Recent : List ℕ → ℕ → List ℕ → List ℕ → Type 0
-Recent whole j keys order = All (Holds whole keys) (drop j order)
+Recent whole j keys order = AllByRecursion (Holds whole keys) (drop j order)
 
 -- a use of such a frame leaves the first j, or fewer
 pub later_recent : (whole : List ℕ) (j : ℕ) (keys order order' : List ℕ) (f : ℕ) → Later f order order' → Holds whole keys f → Recent whole j keys order → Recent whole j keys order'
