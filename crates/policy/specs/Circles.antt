@@ -47,14 +47,20 @@ circle_next size h low =
       | inl more ↦ rw (cond-true (nat_lt (h + 1) size) (h + 1) 0 (lt-ltb (h + 1) size more), upward_push h) (simp append_assoc)
       | inr full ↦
           let e : size - (h + 1) ≡ 0 = omega arith in
-          rw (cond-false (nat_lt (h + 1) size) (h + 1) 0 (le-ltb (h + 1) size full), upward_append 0 h 1 h (size - 0) (omega arith) (omega arith), e)
+          rw (
+            cond-false (nat_lt (h + 1) size) (h + 1) 0 (le-ltb (h + 1) size full),
+            upward_append 0 h 1 h (size - 0) (omega arith) (omega arith),
+            e,
+          )
           (append-nil _)
     ]
 
 -- h is not behind itself
 pub behind_others : (size h : ℕ) → AllByRecursion (λ x. x ≢ h) (behind size h)
 unfolding behind
-behind_others size h = All-append _ (upward (h + 1) (size - (h + 1))) (upward 0 h) (others h (h + 1) (size - (h + 1)) (inl (omega arith))) (others h 0 h (inr (omega arith)))
+behind_others size h =
+    All-append _ (upward (h + 1) (size - (h + 1))) (upward 0 h)
+    (others h (h + 1) (size - (h + 1)) (inl (omega arith))) (others h 0 h (inr (omega arith)))
 
 -- a list with f at one place
 pub record Once (f : ℕ) (xs : List ℕ) : Type 0 where
@@ -96,8 +102,10 @@ once_right f xs ys h o = record {
 pub once_circle : (size h f : ℕ) → f < size → h < size → Once f (circle size h)
 once_circle size h f low within =
     elim (cases_lt f h) [
-      | inl less ↦ once_right f (upward h (size - h)) (upward 0 h) (others f h (size - h) (inl less)) (once_upward f 0 h (omega arith) (omega arith))
-      | inr more ↦ once_left f (upward h (size - h)) (upward 0 h) (once_upward f h (size - h) more (omega arith)) (others f 0 h (inr (omega arith)))
+      | inl less ↦ once_right f (upward h (size - h)) (upward 0 h) (others f h (size - h) (inl less))
+          (once_upward f 0 h (omega arith) (omega arith))
+      | inr more ↦ once_left f (upward h (size - h)) (upward 0 h) (once_upward f h (size - h) more (omega arith))
+          (others f 0 h (inr (omega arith)))
     ]
 
 pub circle_within : (size h : ℕ) → h < size → AllByRecursion (λ x. x < size) (circle size h)

@@ -53,7 +53,8 @@ abbrev pub OneMore : ℕ → List ℕ → List ℕ → Type 0
 OneMore f xs ys = (a : List ℕ) × (b : List ℕ) × (xs ≡ a ++ b) × (ys ≡ a ++ (f ∷ b))
 
 -- a frame more in the circle is one more in the order
-pub one_more : (us vs : List Counted) (f i j n : ℕ) → j ≤ i → i < j + n → OneMore f (classes (us ++ vs) j n) (classes (us ++ ((f, i) ∷ vs)) j n)
+pub one_more : (us vs : List Counted) (f i j n : ℕ) → j ≤ i → i < j + n →
+    OneMore f (classes (us ++ vs) j n) (classes (us ++ ((f, i) ∷ vs)) j n)
 unfolding classes
 one_more us vs f i j zero low high = absurd (omega arith)
 one_more us vs f i j (suc n) low high =
@@ -87,7 +88,8 @@ length-classes (p ∷ ps) n h =
     omega (arith, simp length-append at (ap length before), simp length-append at (ap length after), length-classes ps n h.1)
 
 -- a frame whose count is set to the highest moves later
-pub raised : (us vs : List Counted) (f i t j n : ℕ) → t ≡ j + n → j ≤ i → i ≤ t → Later f (classes (us ++ ((f, i) ∷ vs)) j (suc n)) (classes (us ++ ((f, t) ∷ vs)) j (suc n))
+pub raised : (us vs : List Counted) (f i t j n : ℕ) → t ≡ j + n → j ≤ i → i ≤ t →
+    Later f (classes (us ++ ((f, i) ∷ vs)) j (suc n)) (classes (us ++ ((f, t) ∷ vs)) j (suc n))
 unfolding classes
 raised us vs f i t j zero top low high =
     let (a, b, before, after) = one_more us vs f i j 1 low (omega arith) in
@@ -131,7 +133,12 @@ lowered ps f i j (suc (suc n)) low high =
             append-nil ps,
           )
           (simp append_assoc)
-      | inr ne ↦ cc (with_no f (suc i) j ps (omega arith), with_no_at ps [] f i j ne, append-nil ps, lowered ps f i (j + 1) (suc n) (omega arith) (omega arith))
+      | inr ne ↦ cc (
+        with_no f (suc i) j ps (omega arith),
+        with_no_at ps [] f i j ne,
+        append-nil ps,
+        lowered ps f i (j + 1) (suc n) (omega arith) (omega arith),
+      )
     ]
 
 -- a first frame with count 0 is the first of the order
@@ -143,7 +150,8 @@ foremost ps f n = rw (with_yes f 0 0 ps refl, classes_no [] ps f 0 1 n (omega ar
 pub hindmost : (ps : List Counted) (f t j n : ℕ) → t ≡ j + n → classes (ps ++ ((f, t) ∷ [])) j (suc n) ≡ classes ps j (suc n) ++ (f ∷ [])
 unfolding classes with_count
 hindmost ps f t j zero top = rw (with_yes_at ps [] f t j (omega arith)) (simp (append_assoc, append-nil))
-hindmost ps f t j (suc n) top = rw (with_no_at ps [] f t j (omega arith), append-nil ps, hindmost ps f t (j + 1) n (omega arith)) (simp append_assoc)
+hindmost ps f t j (suc n) top =
+    rw (with_no_at ps [] f t j (omega arith), append-nil ps, hindmost ps f t (j + 1) n (omega arith)) (simp append_assoc)
 
 -- what holds of each frame of the circle holds of each of the order
 pub all_classes : (P : ℕ → Type 0) (ps : List Counted) (j n : ℕ) → AllByRecursion (λ p. P p.0) ps → AllByRecursion P (classes ps j n)

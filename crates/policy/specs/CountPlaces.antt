@@ -16,13 +16,20 @@ use Rattle.policy.specs.Rings.{counted, frames, frames_below, frames_full, frame
 use Rattle.policy.specs.Sweeps.{moved, set_within, onward_within, swept_stops, here_order, moved_order, moved_valid}
 
 -- a count set to the highest, beside others that are the highest
-set_full : (counts : List ℕ) (i top f : ℕ) → i < length counts → ((f ≢ i) → slice_index counts f ≡ top) → slice_index (slice_set counts i top) f ≡ top
+set_full : (counts : List ℕ) (i top f : ℕ) → i < length counts → ((f ≢ i) → slice_index counts f ≡ top) →
+    slice_index (slice_set counts i top) f ≡ top
 set_full counts i top f low h =
     elim (cases_eq f i) [ inl e ↦ rw (e, get_or-set_same counts i top 0 low) | inr ne ↦ get_or-set_other counts i f top 0 ne ∙ h ne ]
 
 -- with room: the next frame is filled
 abbrev filled_one : CountState → CountState
-filled_one s = record { size = s.size; top = s.top; filled = s.filled + 1; hand = onward s.size s.filled; counts = slice_set s.counts s.filled s.top }
+filled_one s = record {
+  size = s.size;
+  top = s.top;
+  filled = s.filled + 1;
+  hand = onward s.size s.filled;
+  counts = slice_set s.counts s.filled s.top;
+}
 
 pub placed_room : (s : CountState) → s.filled < s.size → count_rules.placed s ≡ filled_one s
 placed_room s room = let e = lt-ltb s.filled s.size room in simp e
@@ -31,7 +38,8 @@ placed_room s room = let e = lt-ltb s.filled s.size room in simp e
 abbrev pub stopped : CountState → CountState
 stopped s = count_sweep (s.size * s.top) s
 
-pub placed_full : (s : CountState) → s.filled ≡ s.size → (stopped s).filled ≡ (stopped s).size → count_rules.placed s ≡ moved (stopped s) (stopped s).top
+pub placed_full : (s : CountState) → s.filled ≡ s.size → (stopped s).filled ≡ (stopped s).size →
+    count_rules.placed s ≡ moved (stopped s) (stopped s).top
 placed_full s full still =
     let e = le-ltb s.filled s.size (omega arith) in
     let d = le-ltb (stopped s).filled (stopped s).size (omega arith) in
@@ -65,7 +73,8 @@ module _ (s : CountState) (v : CountValid s) (room : s.filled < s.size) where
   filled_one_order : count_order (filled_one s) ≡ count_order s ++ (s.filled ∷ [])
   unfolding counted
   filled_one_order =
-      order_set (filled_one s) s.counts (upward 0 s.filled) [] s.filled s.top refl filled_one_frames (omega arith) (others s.filled 0 s.filled (inr (omega arith))) tt
+      order_set (filled_one s) s.counts (upward 0 s.filled) [] s.filled s.top refl filled_one_frames (omega arith)
+      (others s.filled 0 s.filled (inr (omega arith))) tt
       ∙ hindmost (counted s.counts (upward 0 s.filled)) s.filled s.top 0 s.top (omega arith)
       ∙ ap (λ xs. xs ++ (s.filled ∷ [])) (sym (order_of s _ (frames_room s (v.hand_at_room room))))
 
@@ -125,7 +134,9 @@ module _ (s : CountState) (v : CountValid s) (f : ℕ) (low : f < s.filled) wher
   unfolding frames
   used_order =
       let o = (frames_below s v).once f low in
-      let (a, b, c, before, after) = raised (counted s.counts o.before) (counted s.counts o.after) f (slice_index s.counts f) s.top 0 s.top (omega arith) (omega arith) (v.counts_within f) in (
+      let (a, b, c, before, after) =
+      raised (counted s.counts o.before) (counted s.counts o.after) f (slice_index s.counts f) s.top 0
+      s.top (omega arith) (omega arith) (v.counts_within f) in (
         a,
         b,
         c,

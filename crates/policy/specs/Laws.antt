@@ -13,7 +13,8 @@ use Rattle.policy.specs.Steps.{Step, fills, swaps, Recent, later_recent, step_re
 use Rattle.policy.specs.Shapes.{reached_valid, ordered_shape}
 use Rattle.policy.specs.Machines.{put_next, put_over, held_most, running, running_hit, running_fetch}
 
-module _ {Setting State : Type 0} {r : Rules Setting State} {valid : State → Type 0} {order : State → List ℕ} (o : OrderedBy r valid order) {k : ℕ} where
+module _ {Setting State : Type 0} {r : Rules Setting State} {valid : State → Type 0} {order : State → List ℕ}
+    (o : OrderedBy r valid order) {k : ℕ} where
   module _ (m : Machine State) (s : Running r k m) where
     ok : valid m.policy
     ok = reached_valid o s.reached
@@ -59,15 +60,19 @@ module _ {Setting State : Type 0} {r : Rules Setting State} {valid : State → T
   fetches_left some whole d [] a m s j h = omega (arith, held_most (ordered_shape o) m s)
   fetches_left some whole d (x ∷ rest) a m s j h =
       ⊎_elim
-      (λ e. let left = fetches_left some whole d rest a.1 (hit r m x) (running_hit (ordered_shape o) m s x e) j (recent_hit m s whole x j e a.0 h) in rw e (omega arith))
+      (λ e. let left = fetches_left some whole d rest a.1 (hit r m x) (running_hit (ordered_shape o) m s x e) j
+      (recent_hit m s whole x j e a.0 h) in rw e (omega arith))
       (λ e. let after = step_recent (step m s some x) whole d a.0 e s.apart (rw (held m s) (o.covers m.policy (ok m s))) j h in
-      let left = fetches_left some whole d rest a.1 (fetch r m x) (running_fetch (ordered_shape o) m s x e) after.0 after.2 in rw e (omega arith))
+      let left = fetches_left some whole d rest a.1 (fetch r m x)
+      (running_fetch (ordered_shape o) m s x e) after.0 after.2 in rw e (omega arith))
       (cases_Bool (member x m.keys))
 
 -- a policy that evicts by an order keeps the law
-pub conservative : {Setting State : Type 0} {r : Rules Setting State} {valid : State → Type 0} {order : State → List ℕ} → OrderedBy r valid order → Conservative r
+pub conservative : {Setting State : Type 0} {r : Rules Setting State} {valid : State → Type 0} {order : State → List ℕ} →
+    OrderedBy r valid order → Conservative r
 conservative {r} {order} o c k some before stretch d =
     let m = touched r (start r c k) before in
     let s = running (ordered_shape o) some c before in
-    let none : Recent stretch (length m.keys) m.keys (order m.policy) = rw (held o m s, drop_all (length (order m.policy)) (order m.policy) (omega arith)) tt in
+    let none : Recent stretch (length m.keys) m.keys (order m.policy) =
+    rw (held o m s, drop_all (length (order m.policy)) (order m.policy) (omega arith)) tt in
     omega (arith, fetches_left o some stretch d stretch (among_itself stretch) m s (length m.keys) none)

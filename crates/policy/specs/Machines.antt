@@ -35,7 +35,8 @@ module _ {Setting State : Type 0} (r : Rules Setting State) where
   pub touched_push : (m : Machine State) (xs : List ℕ) (x : ℕ) → touched r m (xs ++ (x ∷ [])) ≡ touch r (touched r m xs) x
   touched_push m xs x = touched_append m xs (x ∷ [])
 
-  pub fetches_push : (m : Machine State) (xs : List ℕ) (x : ℕ) → fetches r m (xs ++ (x ∷ [])) ≡ fetches r m xs + cond (member x (touched r m xs).keys) 0 1
+  pub fetches_push : (m : Machine State) (xs : List ℕ) (x : ℕ) →
+      fetches r m (xs ++ (x ∷ [])) ≡ fetches r m xs + cond (member x (touched r m xs).keys) 0 1
   fetches_push m xs x = fetches_append m xs (x ∷ []) ∙ omega arith
 
   -- at most each touch is a fetch
@@ -43,7 +44,8 @@ module _ {Setting State : Type 0} (r : Rules Setting State) where
   fetches_most m [] = omega arith
   fetches_most m (x ∷ xs) =
       let rest = fetches_most (touch r m x) xs in
-      let one : cond {A = ℕ} (member x m.keys) 0 1 ≤ 1 = cond_both (member x m.keys) 0 1 (λ n. n ≤ 1) (λ _. omega arith) (λ _. omega arith) in
+      let one : cond {A = ℕ} (member x m.keys) 0 1 ≤ 1 =
+      cond_both (member x m.keys) 0 1 (λ n. n ≤ 1) (λ _. omega arith) (λ _. omega arith) in
       omega arith
 
 module _ {Setting State : Type 0} {r : Rules Setting State} (shape : Shape r) {k : ℕ} where
@@ -112,7 +114,12 @@ module _ {Setting State : Type 0} {r : Rules Setting State} (shape : Shape r) {k
 
   -- a machine runs from its start on
   pub running_start : 1 ≤ k → (c : Setting) → Running r k (start r c k)
-  running_start some c = record { reached = first c k some; frames = shape.first_frames c k some; filled = shape.first_filled c k some; apart = tt }
+  running_start some c = record {
+    reached = first c k some;
+    frames = shape.first_frames c k some;
+    filled = shape.first_filled c k some;
+    apart = tt;
+  }
 
   pub running : 1 ≤ k → (c : Setting) (xs : List ℕ) → Running r k (touched r (start r c k) xs)
   running some c xs = running_touched (start r c k) (running_start some c) xs

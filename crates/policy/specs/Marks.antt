@@ -1,5 +1,6 @@
 -- CLOCK is the clock with counts whose top is 1: a set mark is a count of 1. Assumes nothing.
-use Rattle.std.specs.Prelude.{◌≡◌, ℕ, zero, suc, ◌*◌, Bool, true, false, cond, List, [], ◌∷◌, map, get_or, replicate, nat_lt, slice_index, slice_index_or, refl}
+use Rattle.std.specs.Prelude.{◌≡◌, ℕ, zero, suc, ◌*◌, Bool, true, false, cond, refl}
+use Rattle.std.specs.Prelude.{List, [], ◌∷◌, map, get_or, replicate, nat_lt, slice_index, slice_index_or}
 use Rattle.std.proofs.Common.{ap, ◌∙◌, inl, inr, arith}
 use Rattle.std.proofs.lemmas.List.{map-set}
 use Rattle.std.proofs.lemmas.Bool.{cases_Bool}

@@ -1,5 +1,6 @@
 -- Membership, keys that are all different, and how many a list can have. Assumes nothing.
-use Rattle.std.specs.Prelude.{◌≡◌, ℕ, zero, suc, ◌+◌, ◌<◌, ◌≤◌, true, false, cond, ◌||◌, List, [], ◌∷◌, ◌++◌, length, ◌==◌, ◌≢◌, slice_index, slice_set, refl}
+use Rattle.std.specs.Prelude.{◌≡◌, ℕ, zero, suc, ◌+◌, ◌<◌, ◌≤◌, true, false, cond, ◌||◌, ◌==◌, ◌≢◌, refl}
+use Rattle.std.specs.Prelude.{List, [], ◌∷◌, ◌++◌, length, slice_index, slice_set}
 use Rattle.std.proofs.Common.{sym, ap, inl, inr, ⊎_elim, arith}
 use Rattle.std.specs.List.{AllByRecursion}
 use Rattle.std.proofs.lemmas.Bool.Decides.{nat_tests}
@@ -109,7 +110,10 @@ distinct_most (x ∷ xs) = let ih = distinct_most xs in grind (arith, nat_tests)
 
 pub distinct_apart : (xs : List ℕ) → distinct xs ≡ length xs → Apart xs
 distinct_apart [] e = tt
-distinct_apart (x ∷ xs) e = (let ih = distinct_most xs in grind (arith, nat_tests), distinct_apart xs (let ih = distinct_most xs in grind (arith, nat_tests)))
+distinct_apart (x ∷ xs) e = (
+  let ih = distinct_most xs in grind (arith, nat_tests),
+  distinct_apart xs (let ih = distinct_most xs in grind (arith, nat_tests)),
+)
 
 pub apart_distinct : (xs : List ℕ) → Apart xs → distinct xs ≡ length xs
 apart_distinct [] h = refl
@@ -124,12 +128,14 @@ pub without_misses : (f : ℕ) (xs : List ℕ) → member f xs ≡ false → wit
 without_misses f [] e = refl
 without_misses f (y ∷ ys) e = let ih = without_misses f ys in grind (arith, nat_tests)
 
-pub without_splits : (f : ℕ) (xs : List ℕ) → member f xs ≡ true → (a : List ℕ) × (c : List ℕ) × (xs ≡ a ++ (f ∷ c)) × (without f xs ≡ a ++ c)
+pub without_splits : (f : ℕ) (xs : List ℕ) → member f xs ≡ true →
+    (a : List ℕ) × (c : List ℕ) × (xs ≡ a ++ (f ∷ c)) × (without f xs ≡ a ++ c)
 without_splits f [] e = absurd (grind arith)
 without_splits f (y ∷ ys) e =
     ⊎_elim
     (λ t. ([], ys, ap (λ z. z ∷ ys) (sym (eqb-true f y t)), rw t))
-    (λ t. let parts = without_splits f ys (rw t at e) in (y ∷ parts.0, parts.1, ap (λ zs. y ∷ zs) parts.2, rw t (ap (λ zs. y ∷ zs) parts.3)))
+    (λ t. let parts = without_splits f ys (rw t at e) in
+    (y ∷ parts.0, parts.1, ap (λ zs. y ∷ zs) parts.2, rw t (ap (λ zs. y ∷ zs) parts.3)))
     (cases_Bool (f == y))
 
 -- what is not in a list is not in it without some key either

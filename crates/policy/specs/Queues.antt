@@ -27,7 +27,8 @@ Covers order = (f : ℕ) → member f order ≡ nat_lt f (length order)
 pub covers_back : (order : List ℕ) → Covers order → (f : ℕ) → f < length order → Covers (without f order ++ (f ∷ []))
 covers_back order h f l g =
     let e = h f ∙ lt-ltb f (length order) l in
-    member_push g f (without f order) ∙ member_without f g order e ∙ h g ∙ ap (ltb g) (later_length f order (without f order ++ (f ∷ [])) (back_later f order e))
+    member_push g f (without f order) ∙ member_without f g order e ∙ h g ∙
+    ap (ltb g) (later_length f order (without f order ++ (f ∷ [])) (back_later f order e))
 
 pub covers_next : (order : List ℕ) → Covers order → Covers (order ++ (length order ∷ []))
 covers_next order h g = member_push g (length order) order ∙ rw (h g, length_push) (grind (arith, nat_tests))
@@ -56,7 +57,8 @@ within_frame q v f e = ltb-true f (length q.order) (sym (v.frames f) ∙ e)
 -- a frame moved to the back
 pub back_valid : (q : Queue) → Valid q → (f : ℕ) → f < length q.order → Valid (to_back q f)
 back_valid q v f l =
-    let same : length q.order ≡ length (to_back q f).order = later_length f q.order (to_back q f).order (back_later f q.order (holds_frame q v f l)) in
+    let same : length q.order ≡ length (to_back q f).order =
+    later_length f q.order (to_back q f).order (back_later f q.order (holds_frame q v f l)) in
     record { some = v.some; fits = omega arith; frames = covers_back q.order v.frames f l }
 
 -- a place while there is room
@@ -87,7 +89,8 @@ placed_valid q v =
 
 -- a queue is an eviction order, if a use keeps it one
 queue_ordered : (used : Queue → ℕ → Queue) →
-    ((q : Queue) → Valid q → (f : ℕ) → f < length q.order → Valid (used q f) × ((used q f).size ≡ q.size) × Later f q.order (used q f).order) →
+    ((q : Queue) → Valid q → (f : ℕ) → f < length q.order →
+    Valid (used q f) × ((used q f).size ≡ q.size) × Later f q.order (used q f).order) →
     OrderedBy (queue_rules used) Valid (λ q. q.order)
 queue_ordered used h = record {
   first_valid = λ c k l. record { some = l; fits = omega arith; frames = λ f. sym (le-ltb f 0 (omega arith)) };

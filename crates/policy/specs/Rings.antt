@@ -1,5 +1,6 @@
 -- A clock's order as that of its circle of filled frames with their counts. Assumes nothing.
-use Rattle.std.specs.Prelude.{◌≡◌, ℕ, zero, suc, ◌+◌, ◌-◌, ◌<◌, Bool, true, false, ◌&&◌, List, [], ◌∷◌, ◌++◌, map, length, filter, ◌≢◌, nat_eq, nat_lt, slice_index, slice_set, refl}
+use Rattle.std.specs.Prelude.{◌≡◌, ℕ, zero, suc, ◌+◌, ◌-◌, ◌<◌, Bool, true, false, ◌&&◌, ◌≢◌, nat_eq, nat_lt, refl}
+use Rattle.std.specs.Prelude.{List, [], ◌∷◌, ◌++◌, map, length, filter, slice_index, slice_set}
 use Rattle.std.proofs.Math.Path.{ap}
 use Rattle.std.proofs.Common.{ap₂, ◌∙◌, inl, inr, add-one, arith}
 use Rattle.std.specs.List.{AllByRecursion}
@@ -22,7 +23,8 @@ unfolding counted
 counted_append counts xs ys = map-append _ xs ys
 
 -- a frame of the circle with its count
-counted_at : (counts xs ys : List ℕ) (f : ℕ) → counted counts (xs ++ (f ∷ ys)) ≡ counted counts xs ++ ((f, slice_index counts f) ∷ counted counts ys)
+counted_at : (counts xs ys : List ℕ) (f : ℕ) →
+    counted counts (xs ++ (f ∷ ys)) ≡ counted counts xs ++ ((f, slice_index counts f) ∷ counted counts ys)
 unfolding counted
 counted_at counts xs ys f = counted_append counts xs (f ∷ ys)
 
@@ -33,9 +35,15 @@ counted_set counts [] f v h = refl
 counted_set counts (x ∷ xs) f v h = rw (get_or-set_other counts f x v 0 h.0, counted_set counts xs f v h.1)
 
 -- f with its new count
-counted_set_at : (counts xs ys : List ℕ) (f v : ℕ) → f < length counts → AllByRecursion (λ x. x ≢ f) xs → AllByRecursion (λ x. x ≢ f) ys → counted (slice_set counts f v) (xs ++ (f ∷ ys)) ≡ counted counts xs ++ ((f, v) ∷ counted counts ys)
+counted_set_at : (counts xs ys : List ℕ) (f v : ℕ) → f < length counts → AllByRecursion (λ x. x ≢ f) xs → AllByRecursion (λ x. x ≢ f) ys →
+    counted (slice_set counts f v) (xs ++ (f ∷ ys)) ≡ counted counts xs ++ ((f, v) ∷ counted counts ys)
 counted_set_at counts xs ys f v low h k =
-    rw (counted_at (slice_set counts f v) xs ys f, get_or-set_same counts f v 0 low, counted_set counts xs f v h, counted_set counts ys f v k)
+    rw (
+      counted_at (slice_set counts f v) xs ys f,
+      get_or-set_same counts f v 0 low,
+      counted_set counts xs f v h,
+      counted_set counts ys f v k,
+    )
 
 -- a test of two parts
 kept_both : (p q : ℕ → Bool) (xs : List ℕ) → filter (λ f. p f && q f) xs ≡ filter q (filter p xs)
@@ -62,7 +70,8 @@ unfolding ring frames classes
 from_is s j zero = refl
 from_is s j (suc n) =
     ap₂ (λ xs ys. xs ++ ys)
-    (kept_both (λ f. nat_lt f s.filled) (λ f. nat_eq (slice_index s.counts f) j) (circle s.size s.hand) ∙ kept_counted s.counts j (frames s))
+    (kept_both (λ f. nat_lt f s.filled) (λ f. nat_eq (slice_index s.counts f) j) (circle s.size s.hand) ∙
+    kept_counted s.counts j (frames s))
     (from_is s (j + 1) n)
 
 pub order_is : (s : CountState) → count_order s ≡ classes (ring s) 0 (suc s.top)
@@ -74,8 +83,10 @@ unfolding ring
 order_of s fs e = order_is s ∙ ap (λ xs. classes (counted s.counts xs) 0 (suc s.top)) e
 
 -- the order, where f has a new count n
-pub order_set : (s : CountState) (counts xs ys : List ℕ) (f n : ℕ) → s.counts ≡ slice_set counts f n → frames s ≡ xs ++ (f ∷ ys) → f < length counts →
-    AllByRecursion (λ x. x ≢ f) xs → AllByRecursion (λ x. x ≢ f) ys → count_order s ≡ classes (counted counts xs ++ ((f, n) ∷ counted counts ys)) 0 (suc s.top)
+pub order_set : (s : CountState) (counts xs ys : List ℕ) (f n : ℕ) → s.counts ≡ slice_set counts f n →
+    frames s ≡ xs ++ (f ∷ ys) → f < length counts →
+    AllByRecursion (λ x. x ≢ f) xs → AllByRecursion (λ x. x ≢ f) ys →
+    count_order s ≡ classes (counted counts xs ++ ((f, n) ∷ counted counts ys)) 0 (suc s.top)
 order_set s counts xs ys f n new e low h k =
     order_of s (xs ++ (f ∷ ys)) e
     ∙ ap (λ ps. classes ps 0 (suc s.top)) (ap (λ cs. counted cs (xs ++ (f ∷ ys))) new ∙ counted_set_at counts xs ys f n low h k)
@@ -92,7 +103,9 @@ kept_none p (x ∷ xs) h = rw (h.0, kept_none p xs h.1)
 -- with all frames filled, the whole circle
 pub frames_full : (s : CountState) → s.hand < s.size → s.filled ≡ s.size → frames s ≡ circle s.size s.hand
 unfolding frames
-frames_full s low full = kept_all _ (circle s.size s.hand) (All-weaker _ _ (λ x h. lt-ltb x s.filled (omega arith)) (circle s.size s.hand) (circle_within s.size s.hand low))
+frames_full s low full =
+    kept_all _ (circle s.size s.hand) (All-weaker _ _ (λ x h. lt-ltb x s.filled (omega arith))
+    (circle s.size s.hand) (circle_within s.size s.hand low))
 
 -- with room, the frames before the hand
 pub frames_room : (s : CountState) → s.hand ≡ s.filled → frames s ≡ upward 0 s.filled
@@ -135,7 +148,8 @@ module _ (s : CountState) (v : CountValid s) where
 
   pub length-order : length (count_order s) ≡ s.filled
   unfolding ring counted
-  length-order = ap length (order_is s) ∙ length-classes (ring s) (suc s.top) ring_within ∙ length-map (frames s) _ ∙ (frames_below s v).many
+  length-order = ap length (order_is s) ∙ length-classes (ring s) (suc s.top) ring_within ∙
+      length-map (frames s) _ ∙ (frames_below s v).many
 
   pub order_within : AllByRecursion (λ x. x < s.filled) (count_order s)
   unfolding ring counted
@@ -151,5 +165,6 @@ module _ (s : CountState) (v : CountValid s) where
   pub order_has : (f : ℕ) → f < s.filled → (a : List ℕ) × (b : List ℕ) × (count_order s ≡ a ++ (f ∷ b))
   order_has f low =
       let o = (frames_below s v).once f low in
-      let (a, b, _, e) = one_more (counted s.counts o.before) (counted s.counts o.after) f (slice_index s.counts f) 0 (suc s.top) (omega arith) (omega (arith, v.counts_within f)) in
+      let (a, b, _, e) = one_more (counted s.counts o.before) (counted s.counts o.after) f (slice_index s.counts f) 0
+      (suc s.top) (omega arith) (omega (arith, v.counts_within f)) in
       (a, b, order_at f low ∙ e)

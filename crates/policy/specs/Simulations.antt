@@ -5,7 +5,8 @@ use Rattle.policy.specs.Machine.{Rules}
 use Rattle.policy.specs.Order.{OrderedBy}
 
 -- setting and state of r, read as those of r', give the same answers and states
-pub record Simulates {Setting State Setting' State' : Type 0} (r : Rules Setting State) (r' : Rules Setting' State') (setting : Setting → Setting') (state : State → State') : Type 0 where
+pub record Simulates {Setting State Setting' State' : Type 0} (r : Rules Setting State) (r' : Rules Setting' State')
+    (setting : Setting → Setting') (state : State → State') : Type 0 where
   pub first : (c : Setting) (k : ℕ) → state (r.first c k) ≡ r'.first (setting c) k
   pub frames : (s : State) → r.frames s ≡ r'.frames (state s)
   pub filled : (s : State) → r.filled s ≡ r'.filled (state s)
@@ -14,7 +15,8 @@ pub record Simulates {Setting State Setting' State' : Type 0} (r : Rules Setting
   pub used : (s : State) (f : ℕ) → state (r.used s f) ≡ r'.used (state s) f
 
 -- an eviction order of the others is one of theirs
-pub ordered_as : {Setting State Setting' State' : Type 0} {r : Rules Setting State} {r' : Rules Setting' State'} {setting : Setting → Setting'} {state : State → State'} {valid : State' → Type 0} {order : State' → List ℕ} →
+pub ordered_as : {Setting State Setting' State' : Type 0} {r : Rules Setting State} {r' : Rules Setting' State'}
+    {setting : Setting → Setting'} {state : State → State'} {valid : State' → Type 0} {order : State' → List ℕ} →
     Simulates r r' setting state → OrderedBy r' valid order → OrderedBy r (λ s. valid (state s)) (λ s. order (state s))
 ordered_as {r} {r'} {setting} {state} {valid} {order} m o = record {
   first_valid = λ c k l. rw (m.first c k) (o.first_valid (setting c) k l);

@@ -1,8 +1,10 @@
 -- What a touch does to the keys held and to the eviction order. Assumes nothing.
-use Rattle.std.specs.Prelude.{◌≡◌, ℕ, zero, suc, ◌+◌, ◌<◌, ◌≤◌, true, false, List, [], ◌∷◌, ◌++◌, length, drop, slice_index, slice_set, refl}
+use Rattle.std.specs.Prelude.{◌≡◌, ℕ, zero, suc, ◌+◌, ◌<◌, ◌≤◌, true, false, refl}
+use Rattle.std.specs.Prelude.{List, [], ◌∷◌, ◌++◌, length, drop, slice_index, slice_set}
 use Rattle.std.proofs.Common.{⊎_elim, arith}
 use Rattle.std.specs.List.{AllByRecursion}
-use Rattle.std.proofs.lemmas.List.{length-append, length_push, length-set, get_or_append_left, get_or_push, get_or-set_same, get_or-set_other}
+use Rattle.std.proofs.lemmas.List.{length-append, length_push, length-set}
+use Rattle.std.proofs.lemmas.List.{get_or_append_left, get_or_push, get_or-set_same, get_or-set_other}
 use Rattle.std.proofs.ByRecursion.{All-push, All-drop, All-weaker, All-from_get_or}
 use Rattle.std.proofs.lemmas.Bool.{cases_eq}
 use Rattle.base.specs.Lists.{member, distinct, Apart}
@@ -40,7 +42,8 @@ later_length f xs ys l = rw (l.3, l.4) (simp length-append (omega arith))
 -- What a fetch of x does on k frames: it fills the next frame, or the first of the order takes x and comes last.
 pub data Step (k x : ℕ) : List ℕ → List ℕ → List ℕ → List ℕ → Type 0 where
   fills : {keys order : List ℕ} → Step k x keys order (keys ++ (x ∷ [])) (order ++ (length keys ∷ []))
-  swaps : {keys rest : List ℕ} {f : ℕ} → f < length keys → length keys ≡ k → Step k x keys (f ∷ rest) (slice_set keys f x) (rest ++ (f ∷ []))
+  swaps : {keys rest : List ℕ} {f : ℕ} → f < length keys → length keys ≡ k →
+      Step k x keys (f ∷ rest) (slice_set keys f x) (rest ++ (f ∷ []))
 
 -- frame f holds one of the keys of whole
 abbrev pub Holds : List ℕ → List ℕ → ℕ → Type 0
@@ -61,7 +64,8 @@ abbrev pub Recent : List ℕ → ℕ → List ℕ → List ℕ → Type 0
 Recent whole j keys order = AllByRecursion (Holds whole keys) (drop j order)
 
 -- a use of such a frame leaves the first j, or fewer
-pub later_recent : (whole : List ℕ) (j : ℕ) (keys order order' : List ℕ) (f : ℕ) → Later f order order' → Holds whole keys f → Recent whole j keys order → Recent whole j keys order'
+pub later_recent : (whole : List ℕ) (j : ℕ) (keys order order' : List ℕ) (f : ℕ) → Later f order order' →
+    Holds whole keys f → Recent whole j keys order → Recent whole j keys order'
 later_recent whole j keys order order' f l p h =
     rw l.4 (drop-later (Holds whole keys) f p j l.0 l.1 l.2 (rw l.3 at h))
 
@@ -73,12 +77,14 @@ full_recent whole keys order x h c w n a =
 
 -- a fetch uses up one of the other frames
 pub step_recent : {k x : ℕ} {keys order keys' order' : List ℕ} → Step k x keys order keys' order' →
-    (whole : List ℕ) → distinct whole ≤ k → member x whole ≡ true → member x keys ≡ false → Apart keys → ((f : ℕ) → f < length keys → member f order ≡ true) →
+    (whole : List ℕ) → distinct whole ≤ k → member x whole ≡ true → member x keys ≡ false → Apart keys →
+    ((f : ℕ) → f < length keys → member f order ≡ true) →
     (j : ℕ) → Recent whole j keys order → (i : ℕ) × (i + length keys < j + length keys') × Recent whole i keys' order'
 step_recent {x} {keys} {order} fills whole d w n a c j h = (
   j,
   simp length_push (omega arith),
-  drop-push (Holds whole (keys ++ (x ∷ []))) (length keys) (simp length_push (omega arith), rw (get_or_push keys x 0 (length keys) refl) w) j order
+  drop-push (Holds whole (keys ++ (x ∷ []))) (length keys)
+      (simp length_push (omega arith), rw (get_or_push keys x 0 (length keys) refl) w) j order
       (All-weaker _ _ (holds_push whole keys x) (drop j order) h),
 )
 step_recent {x} (swaps {keys} {rest} {f} l e) whole d w n a c zero h =

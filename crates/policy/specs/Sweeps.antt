@@ -1,5 +1,6 @@
 -- The hand over a full clock: it moves on, sweeps, and stops. Assumes nothing.
-use Rattle.std.specs.Prelude.{◌≡◌, ℕ, zero, suc, ◌-◌, ◌*◌, ◌<◌, ◌≤◌, List, [], ◌∷◌, ◌++◌, length, sum, nat_lt, slice_index, slice_index_or, slice_set}
+use Rattle.std.specs.Prelude.{◌≡◌, ℕ, zero, suc, ◌-◌, ◌*◌, ◌<◌, ◌≤◌, nat_lt}
+use Rattle.std.specs.Prelude.{List, [], ◌∷◌, ◌++◌, length, sum, slice_index, slice_index_or, slice_set}
 use Rattle.std.proofs.Math.Path.{refl}
 use Rattle.std.proofs.Common.{sym, ap, ◌∙◌, inl, inr, arith}
 use Rattle.std.proofs.lemmas.List.{length-set, get_or-set_same, get_or-set_other}
@@ -21,7 +22,8 @@ pub onward_within : (size h : ℕ) → 1 ≤ size → onward size h < size
 onward_within size h some = grind arith
 
 -- a count within the bound keeps the counts within
-pub set_within : (counts : List ℕ) (i n top : ℕ) → i < length counts → n ≤ top → ((f : ℕ) → slice_index counts f ≤ top) → (f : ℕ) → slice_index (slice_set counts i n) f ≤ top
+pub set_within : (counts : List ℕ) (i n top : ℕ) → i < length counts → n ≤ top →
+    ((f : ℕ) → slice_index counts f ≤ top) → (f : ℕ) → slice_index (slice_set counts i n) f ≤ top
 set_within counts i n top low small h f =
     elim (cases_eq f i) [
       | inl e ↦ rw (e, get_or-set_same counts i n 0 low) small
@@ -46,7 +48,8 @@ module _ (s : CountState) (v : CountValid s) (full : s.filled ≡ s.size) where
   here_order = order_of s _ (frames_full s v.hand_within full ∙ circle_here s.size s.hand v.hand_within)
 
   -- the order once it has moved on
-  pub moved_order : (n : ℕ) → count_order (moved s n) ≡ classes (counted s.counts (behind s.size s.hand) ++ ((s.hand, n) ∷ [])) 0 (suc s.top)
+  pub moved_order : (n : ℕ) →
+      count_order (moved s n) ≡ classes (counted s.counts (behind s.size s.hand) ++ ((s.hand, n) ∷ [])) 0 (suc s.top)
   unfolding counted
   moved_order n =
       order_set (moved s n) s.counts (behind s.size s.hand) [] s.hand n refl
@@ -96,11 +99,13 @@ sweep_stops (suc fuel) s v full enough =
             same_order = r.same_order ∙ lowered_order s v full more;
             at_zero = r.at_zero;
           })
-      | inr none ↦ rw (cond-false (nat_lt 0 n) _ s (le-ltb 0 n none)) (record { valid = v; same_size = refl; still_full = full; same_order = refl; at_zero = omega arith })
+      | inr none ↦ rw (cond-false (nat_lt 0 n) _ s (le-ltb 0 n none))
+          (record { valid = v; same_size = refl; still_full = full; same_order = refl; at_zero = omega arith })
     ]
 
 -- at most size * top steps are needed
 pub swept_stops : (s : CountState) → CountValid s → s.filled ≡ s.size → Stops s (count_sweep (s.size * s.top) s)
 swept_stops s v full =
-    let most = rw v.a_count_each at (sum_by_le (λ x. x) s.top s.counts (All-from_get_or (λ n. n ≤ s.top) s.counts 0 (λ f _. v.counts_within f))) in
+    let most = rw v.a_count_each at (sum_by_le (λ x. x) s.top s.counts
+    (All-from_get_or (λ n. n ≤ s.top) s.counts 0 (λ f _. v.counts_within f))) in
     sweep_stops (s.size * s.top) s v full (omega arith)
