@@ -106,7 +106,7 @@ module _ {K : Type 0} (code spread : K → ℕ) (xs : List (Slot K)) where
         replaced_at c =
             rw (← set-set xs p Free (Taken k n))
             (filled_at code (set xs p Free) p k n zs_inside zs_free zs_different zs_absent c
-            ∙ ap (λ o. cond (eqb c (code k)) (Some n) o) (freed_at code xs (set xs p Free) p k old there different (λ f. refl) c)
+            ∙ ap (λ o. cond (eqb (code k) c) (Some n) o) (freed_at code xs (set xs p Free) p k old there different (λ f. refl) c)
             ∙ update-update eqb (number_of code xs) (code k) None (Some n) c)
 
         pub replaced_map : slots_map code (set xs p (Taken k n)) ≡ after_put (slots_map code xs) (code k) n

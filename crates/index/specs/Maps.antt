@@ -1,5 +1,6 @@
 -- What an index means: a map from the codes of keys to numbers, with a limit on how many codes have one.
-use Rattle.std.specs.Prelude.{◌≡◌, ℕ, ◌+◌, ◌-◌, ◌≤◌, Bool, cond, ◌||◌, List, length, is_some, Some, None, Ok, Err, count_by, Option, Result, nat_eq, nat_lt}
+use Rattle.std.specs.Prelude.{◌≡◌, ℕ, ◌+◌, ◌-◌, ◌≤◌, Bool, cond, ◌||◌, nat_eq, nat_lt}
+use Rattle.std.specs.Prelude.{List, length, count_by, Option, is_some, Some, None, Result, Ok, Err}
 use Rattle.std.specs.Map.{update}
 use Rattle.base.specs.declared.refusal.Refusal.{Refusal}
 use Rattle.base.specs.declared.refusal.Refusal.TheVariants.{IndexFull}

@@ -1,5 +1,5 @@
 -- What looking for a key comes to, and what freeing a slot leaves.
-use Rattle.std.specs.Prelude.{◌≡◌, ℕ, ◌<◌, true, List, length, get_or, sum_by, count_by, slice_index_or, slice_set}
+use Rattle.std.specs.Prelude.{◌≡◌, ℕ, ◌<◌, true, List, length, sum_by, count_by, slice_index_or, slice_set}
 use Rattle.index.specs.declared.slot.Slot.{Slot}
 use Rattle.index.specs.declared.slot.Slot.TheVariants.{Free, Taken}
 use Rattle.index.specs.declared.index.probing.Probe.{Probe}
@@ -13,7 +13,7 @@ Absent code slots key = count_by (holds code (code key)) slots ≡ 0
 -- a free slot where the key, which no slot holds, would be reached
 pub record Open {K : Type 0} (code spread : K → ℕ) (slots : List (Slot K)) (key : K) (place : ℕ) : Type 0 where
   pub within : place < length slots
-  pub free : get_or slots place Free ≡ Free
+  pub free : slice_index_or slots place Free ≡ Free
   pub absent : Absent code slots key
   pub way : (p : ℕ) → p < length slots → Before spread slots key p place → is_taken (slice_index_or slots p Free) ≡ true
 

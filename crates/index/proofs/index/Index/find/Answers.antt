@@ -7,8 +7,8 @@ pub returns-in-Found : goal.returns-in-Found
 returns-in-Found g c =
     sym (found_at g.K.Key.code g.K.Key.spread _ c.requires.different c.in-Found.place _ _ c.in-Found.ensures)
 
-pub returns-in-default : goal.returns-in-default
-returns-in-default g c =
+pub returns-in_default : goal.returns-in_default
+returns-in_default g c =
     let code = g.K.Key.code in let spread = g.K.Key.spread in
     let xs = slots_of c.args.self.now in let k = c.args.key.now in
-    sym (absent_none code spread xs k (absent_from_rest code spread xs k c.probe.result c.probe.ensures c.in-default.not-Found))
+    sym (absent_none code spread xs k (absent_from_rest code spread xs k c.probe.result c.probe.ensures c.in_default.not-Found))

@@ -5,16 +5,16 @@ use Rattle.index.proofs.Maps.{ok_not_full, put_answer_known, put_answer_new, put
 use Rattle.index.proofs.Updates.{absent_none, found_at, reached_set, replaced_size, replaced_different, replaced_map, added_size, added_room, added_different, added_map}
 use Rattle.index.proofs.index.Index.put.Goals as goal
 
-pub offset-bounds-self-place : goal.offset-bounds-self-place
-offset-bounds-self-place g c =
+pub offset_bounds-self-place : goal.offset_bounds-self-place
+offset_bounds-self-place g c =
     let h : c.in-Found.place < length c.args.self.now.slots.now = within_from_taken _ c.in-Found.place _ _ c.in-Found.ensures in
     search rules
 
 pub bounds-self-place : goal.bounds-self-place
 bounds-self-place g c = within_from_taken _ c.in-Found.place _ _ c.in-Found.ensures
 
-pub overflow-add-self : goal.overflow-add-self
-overflow-add-self g c =
+pub overflow_add-self : goal.overflow_add-self
+overflow_add-self g c =
     let room = added_room g.K.Key.code g.K.Key.spread _ c.requires.different c.in-Vacant.place c.args.key c.args.number c.in-Vacant.ensures in
     let h : c.args.self.now.taken < length c.args.self.now.slots.now = omega (arith, c.requires.counted) in
     search rules

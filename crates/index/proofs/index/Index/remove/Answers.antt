@@ -11,8 +11,8 @@ vacate-requires g c = record {
   reached = c.requires.reached;
 }
 
-pub overflow-sub-self : goal.overflow-sub-self
-overflow-sub-self g c =
+pub overflow_sub-self : goal.overflow_sub-self
+overflow_sub-self g c =
     let size = removed_size g.K.Key.code g.K.Key.spread _ c.requires.different c.in-Found.place _ _ c.in-Found.ensures _ c.vacate.ensures in
     omega (arith, c.requires.counted)
 
@@ -34,11 +34,11 @@ returns-in-Found g c =
       absent = λ e. absurd (some_not_none _ e);
     }
 
-pub returns-in-default : goal.returns-in-default
-returns-in-default g c =
+pub returns-in_default : goal.returns-in_default
+returns-in_default g c =
     let code = g.K.Key.code in let spread = g.K.Key.spread in
     let xs = slots_of c.args.self.now in let k = c.args.key.now in
-    let none = absent_none code spread xs k (absent_from_rest code spread xs k c.probe.result c.probe.ensures c.in-default.not-Found) in
+    let none = absent_none code spread xs k (absent_from_rest code spread xs k c.probe.result c.probe.ensures c.in_default.not-Found) in
     record {
       sound = c.requires;
       answer = sym none;

@@ -30,14 +30,14 @@ pub loop-hole-smaller-then-steps : goal.loop-hole-smaller-then-steps
 loop-hole-smaller-then-steps g c =
     turn_less g.K.Key.spread _
     (turned _ _ c.loop-hole.invariant.0 c.after-next.ensures c.if-next-hole.false c.index-slots-next.is c.in-Taken.is
-    c.home-of-home.ensures c.steps.ensures c.steps-in-Taken.ensures)
+    c.home_of-home.ensures c.steps.ensures c.steps-in-Taken.ensures)
     _ c.if-steps.true (exchanged _ _ _ _ _ _ c.swap.ensures.len c.swap.ensures.by_index)
 
 pub loop-hole-preserved-then-steps : goal.loop-hole-preserved-then-steps
 loop-hole-preserved-then-steps g c = (
   turn_moves g.K.Key.spread _
       (turned _ _ c.loop-hole.invariant.0 c.after-next.ensures c.if-next-hole.false c.index-slots-next.is c.in-Taken.is
-      c.home-of-home.ensures c.steps.ensures c.steps-in-Taken.ensures)
+      c.home_of-home.ensures c.steps.ensures c.steps-in-Taken.ensures)
       _ c.if-steps.true (exchanged _ _ _ _ _ _ c.swap.ensures.len c.swap.ensures.by_index),
   λ f. sum_by-IsPermutation f _ _ c.swap.ensures.permutation ∙ c.loop-hole.invariant.1 f,
 )
@@ -46,7 +46,7 @@ pub loop-hole-preserved : goal.loop-hole-preserved
 loop-hole-preserved g c = (
   turn_stays g.K.Key.spread _
       (turned _ _ c.loop-hole.invariant.0 c.after-next.ensures c.if-next-hole.false c.index-slots-next.is c.in-Taken.is
-      c.home-of-home.ensures c.steps.ensures c.steps-in-Taken.ensures)
+      c.home_of-home.ensures c.steps.ensures c.steps-in-Taken.ensures)
       c.if-steps.false,
   c.loop-hole.invariant.1,
 )
