@@ -1,12 +1,12 @@
 -- MIN's pass over the touches, one after another.
-use Rattle.std.proofs.Common.{◌≡◌, ℕ, zero, suc, ◌+◌, ◌-◌, ◌<◌, ◌≤◌, max, Bool, true, false, cond, eqb, ltb, ◌⊎◌, List, [], ◌∷◌, ◌++◌, length, get_or, take, drop, set, Some, None, sym, refl, ap, ◌∙◌, subst, inl, inr, append_assoc, add-zero, zero-add, add-one, arith}
+use Rattle.std.proofs.Common.{◌≡◌, ℕ, zero, suc, ◌+◌, ◌<◌, ◌≤◌, max, Bool, true, false, cond, eqb, ltb, List, [], ◌∷◌, ◌++◌, length, get_or, take, drop, set, Some, None, sym, refl, ap, ◌∙◌, subst, inl, inr, append_assoc, zero-add, add-one, arith}
 use Rattle.std.proofs.lemmas.Bool.Decides.{nat_tests}
 use Rattle.std.proofs.lemmas.Bool.{cases_Bool, cases_eq, cases_lt, lt-ltb, le-ltb, ltb-true, ltb-false, ne_eqb}
-use Rattle.std.proofs.lemmas.List.{length_push, length-set, get_or_push, get_or_append_left, get_or-set_same, get_or-set_other, drop_more, take_more_set, at_drop_more, at_drop_all, take_all, append-nil, drop-drop, drop-set-lt, take-append-drop}
+use Rattle.std.proofs.lemmas.List.{length_push, length-set, get_or_push, get_or_append_left, get_or-set_same, get_or-set_other, drop_more, take_more_set, at_drop_more, at_drop_all, append-nil, drop-drop, drop-set-lt, take-append-drop}
 use Rattle.base.specs.Lists.{member, place_in, Apart}
 use Rattle.policy.specs.Machine.{put}
 use Rattle.index.specs.Maps.{Map, empty}
-use Rattle.planning.specs.Frames.{frame_of, Shows, Room}
+use Rattle.planning.specs.Frames.{Shows, Room}
 use Rattle.planning.specs.Minimum.{furthest, min_frame, min_keys, min_serves, min_fetches}
 use Rattle.planning.specs.Chosen.{LowestFurthest, Chosen, NextTouch, next_of}
 use Rattle.planning.proofs.Members.{member_getD}

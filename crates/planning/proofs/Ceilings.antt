@@ -1,10 +1,8 @@
 -- The optimum, the bound and the ceiling, put together.
-use Rattle.std.proofs.Common.{◌≡◌, ℕ, ◌+◌, ◌-◌, ◌*◌, ◌/◌, ◌<◌, ◌≤◌, List, [], length, sym, inl, inr, mul-le-mul_right, mul_comm, add-mul, le-div_iff_mul-le, mul-add, arith}
-use native.Mathlib.Nat.{mul-sub}
+use Rattle.std.proofs.Common.{◌≡◌, ℕ, ◌+◌, ◌-◌, ◌*◌, ◌/◌, ◌≤◌, List, [], inl, inr, mul_comm, add-mul, le-div_iff_mul-le, arith}
 use Rattle.std.proofs.lemmas.Bool.{cases_lt}
 use Rattle.policy.specs.Machine.{Rules, start, touched, fetches}
 use Rattle.policy.specs.Law.{Conservative}
-use Rattle.planning.specs.Schedules.{Demand}
 use Rattle.planning.specs.Minimum.{min_fetches, min_serves}
 use Rattle.planning.specs.Bounds.{Optimal, Competitive}
 use Rattle.planning.specs.Plan.{ceiling}

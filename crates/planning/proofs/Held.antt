@@ -1,10 +1,10 @@
 -- Which frame holds a key, once a frame holds another.
-use Rattle.std.proofs.Common.{◌≡◌, ℕ, zero, suc, ◌+◌, ◌-◌, ◌<◌, ◌≤◌, Bool, true, false, cond, ◌||◌, eqb, ltb, List, [], ◌∷◌, ◌++◌, length, get_or, set, is_some, Some, None, Ok, Option, Result, sym, refl, ap, ◌∙◌, inl, inr, arith}
+use Rattle.std.proofs.Common.{◌≡◌, ℕ, zero, suc, ◌<◌, true, false, cond, eqb, ltb, List, [], ◌∷◌, ◌++◌, length, get_or, set, is_some, Some, None, Ok, Result, sym, refl, ap, ◌∙◌, inl, inr, arith}
 use Rattle.base.specs.declared.refusal.Refusal.{Refusal}
 use Rattle.std.proofs.lemmas.Bool.Decides.{nat_tests}
 use Rattle.std.proofs.lemmas.Bool.{cases_Bool, cases_eq, cases_lt, lt-ltb, le-ltb, ne_eqb, or_right}
 use Rattle.std.proofs.lemmas.List.{length_push, length-set, get_or_push, get_or_append_left, get_or-set_same, get_or-set_other}
-use Rattle.base.specs.Lists.{member, place_in, Apart}
+use Rattle.base.specs.Lists.{member, Apart}
 use Rattle.policy.specs.Machine.{put}
 use Rattle.index.specs.Maps.{Map, stored, after_remove, has, accepts, put_answer, after_put}
 use Rattle.planning.specs.Frames.{frame_of, Shows, Room, without_frame}

@@ -1,5 +1,5 @@
 -- How the index and the held-key list show which keys the frames hold. Assumes nothing.
-use Rattle.std.specs.Prelude.{◌≡◌, ℕ, ◌<◌, ◌≤◌, Bool, false, cond, List, length, Some, None, Option, nat_lt, slice_index}
+use Rattle.std.specs.Prelude.{◌≡◌, ℕ, ◌<◌, ◌≤◌, false, cond, List, length, Some, None, Option, nat_lt, slice_index}
 use Rattle.base.specs.Lists.{member, place_in, Apart}
 use Rattle.index.specs.Maps.{Map, after_remove}
 

@@ -1,5 +1,5 @@
 -- MIN, from the touches still to come. Assumes nothing.
-use Rattle.std.specs.Prelude.{ℕ, suc, ◌+◌, ◌≤◌, Bool, true, false, cond, List, [], ◌∷◌, ◌++◌, length, nat_lt, slice_index, slice_set}
+use Rattle.std.specs.Prelude.{ℕ, suc, ◌+◌, cond, List, [], ◌∷◌, ◌++◌, length, nat_lt, slice_index, slice_set}
 use Rattle.base.specs.Lists.{member, place_in}
 
 -- the lowest frame whose key is touched again last; a key that is not touched again counts as touched past the end

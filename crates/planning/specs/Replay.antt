@@ -1,5 +1,5 @@
 -- What a replay answers. Assumes nothing.
-use Rattle.std.specs.Prelude.{ℕ, Bool, cond, ◌&&◌, List, [], length, Ok, Err, Result, nat_le}
+use Rattle.std.specs.Prelude.{ℕ, cond, ◌&&◌, List, [], length, Ok, Err, Result, nat_le}
 use Rattle.base.specs.declared.refusal.Refusal.{Refusal}
 use Rattle.base.specs.declared.refusal.Refusal.TheVariants.{ListTooLong, TooFewPlaces}
 use Rattle.policy.specs.Machine.{Rules, Machine, start, fetches}

@@ -1,5 +1,5 @@
 -- Demand schedules. Assumes nothing.
-use Rattle.std.specs.Prelude.{◌≡◌, ℕ, suc, ◌<◌, ◌≤◌, true, false, List, [], ◌∷◌, ◌++◌, length, slice_index, slice_set}
+use Rattle.std.specs.Prelude.{◌≡◌, ℕ, suc, ◌<◌, true, false, List, [], ◌∷◌, ◌++◌, length, slice_index, slice_set}
 use Rattle.base.specs.Lists.{member, without}
 
 -- Demand h held touches d: a schedule on h frames that holds `held` can serve `touches` with d fetches.

@@ -1,11 +1,9 @@
-use Rattle.std.proofs.Common.{◌≡◌, ℕ, ◌<◌, List, map, length, get_or, is_ok, Ok, Err, Result, sym, refl, ap, ◌∙◌, arith}
+use Rattle.std.proofs.Common.{◌≡◌, map, get_or, is_ok, Ok, sym, refl, ap, ◌∙◌}
 use Rattle.std.proofs.lemmas.List.{get_or-map, length-map}
 use Rattle.std.proofs.lemmas.Bool.{false≢true}
 use Rattle.std.proofs.lemmas.Result.{err_from_is_err_and}
-use Rattle.base.specs.declared.refusal.Refusal.{Refusal}
 use Rattle.index.specs.Maps.{Map}
 use Rattle.index.specs.Slots.{map_of}
-use Rattle.planning.specs.Frames.{without_frame}
 use Rattle.planning.proofs.Lists.{never}
 use Rattle.planning.proofs.Held.{holds_by_calls, places_put, places_out}
 use Rattle.planning.proofs.hold.hold.Goals as goal

@@ -1,6 +1,5 @@
-use Rattle.std.proofs.Common.{◌≡◌, ℕ, ◌+◌, ◌<◌, ◌≤◌, max, List, map, length, get_or, set, Some, None, Ok, Err, Result, sym, refl, ap, ◌∙◌, arith}
+use Rattle.std.proofs.Common.{◌≡◌, ℕ, ◌<◌, List, map, length, Ok, sym, refl, ap, ◌∙◌, arith}
 use Rattle.std.proofs.lemmas.List.{length-map}
-use Rattle.base.specs.declared.refusal.Refusal.{Refusal}
 use Rattle.index.specs.declared.index.Index.{Index}
 use Rattle.index.specs.Slots.{map_of, number_of, slots_of, Sound}
 use Rattle.policy.specs.Machine.{Rules, Machine}

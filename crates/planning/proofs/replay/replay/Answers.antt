@@ -1,14 +1,13 @@
-use Rattle.std.proofs.Common.{◌≡◌, ℕ, ◌≤◌, true, List, map, length, is_ok, Ok, Err, sym, refl, ap, ◌∙◌, arith}
+use Rattle.std.proofs.Common.{◌≡◌, ℕ, true, List, map, length, is_ok, Ok, Err, sym, refl, ap, ◌∙◌, arith}
 use Rattle.std.proofs.lemmas.List.{length-map}
 use Rattle.std.proofs.lemmas.Result.{err_from_is_err_and}
 use Rattle.std.proofs.lemmas.Bool.{true≢false}
 use Rattle.base.specs.Geometries.{frames_of}
-use Rattle.policy.specs.Machine.{start, fetches}
-use Rattle.policy.specs.Shape.{Running}
+use Rattle.policy.specs.Machine.{fetches}
 use Rattle.policy.specs.Machines.{running_start}
 use Rattle.index.specs.Maps.{Map, empty}
 use Rattle.index.specs.Slots.{map_of}
-use Rattle.planning.specs.Replay.{idle, lists_answer, replayed}
+use Rattle.planning.specs.Replay.{idle, lists_answer}
 use Rattle.planning.proofs.Lists.{lists_enough, replayed_refused, replayed_accepted}
 use Rattle.planning.proofs.replay.replay.Goals as goal
 

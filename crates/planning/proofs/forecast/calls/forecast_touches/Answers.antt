@@ -1,17 +1,16 @@
-use Rattle.std.proofs.Common.{◌≡◌, ℕ, ◌+◌, ◌-◌, ◌*◌, ◌<◌, ◌≤◌, max, true, false, List, [], ◌++◌, map, length, take, is_ok, Ok, Err, Result, sym, refl, ap, ◌∙◌, subst, arith}
+use Rattle.std.proofs.Common.{◌≡◌, ℕ, ◌+◌, ◌-◌, ◌*◌, ◌≤◌, max, true, List, [], map, length, is_ok, Ok, Err, sym, refl, ap, ◌∙◌, subst, arith}
 use Rattle.std.proofs.lemmas.List.{length-map}
 use Rattle.std.proofs.lemmas.Result.{err_from_is_err_and, IfOk-from_err, IfOk-at_ok}
 use Rattle.std.proofs.lemmas.Bool.{true≢false, cond-false, cond-true}
-use Rattle.base.specs.declared.refusal.Refusal.{Refusal}
-use Rattle.policy.specs.Machine.{Rules, start, touched, fetches}
+use Rattle.policy.specs.Machine.{Rules, start, fetches}
 use Rattle.policy.specs.Law.{Conservative}
 use Rattle.planning.specs.declared.plan.Plan.{Plan}
 use Rattle.planning.specs.declared.forecast.Forecast.{Forecast}
-use Rattle.planning.specs.Bounds.{Optimal, Competitive, Bounded}
+use Rattle.planning.specs.Bounds.{Optimal, Bounded}
 use Rattle.planning.specs.Minimum.{min_fetches}
 use Rattle.planning.specs.Schedules.{Demand}
-use Rattle.planning.specs.Plan.{Places, plan_of, plan_answer, planned, forecasted}
-use Rattle.planning.specs.Replay.{lists_answer, replayed}
+use Rattle.planning.specs.Plan.{Places, plan_of, plan_answer}
+use Rattle.planning.specs.Replay.{replayed}
 use Rattle.planning.proofs.Ceilings.{competitive, under_ceiling}
 use Rattle.planning.proofs.Lists.{never, same_ok, replayed_accepted}
 use Rattle.planning.proofs.Plans.{Passed, plan_passed, planned_accepted, plan_passes, replay_passes, geometry_frames, geometry_accepted, forecast_refused, forecast_accepted}

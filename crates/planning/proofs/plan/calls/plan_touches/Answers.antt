@@ -1,11 +1,11 @@
-use Rattle.std.proofs.Common.{◌≡◌, ℕ, suc, ◌^◌, ◌<◌, ◌≤◌, true, false, List, [], ◌∷◌, ◌++◌, map, length, take, drop, is_ok, Ok, Err, sym, refl, ap, ◌∙◌, subst, arith}
+use Rattle.std.proofs.Common.{◌≡◌, ℕ, suc, ◌≤◌, false, List, [], ◌∷◌, map, length, take, drop, is_ok, Ok, Err, sym, refl, ap, ◌∙◌, subst, arith}
 use Rattle.std.proofs.lemmas.List.{length-map, take_at}
 use Rattle.std.proofs.lemmas.Result.{err_from_is_err_and, IfOk-from_err}
 use Rattle.std.proofs.lemmas.Bool.{true≢false, cond-false}
 use Rattle.planning.specs.Bounds.{Optimal}
-use Rattle.planning.specs.Minimum.{min_keys, min_serves, min_fetches}
+use Rattle.planning.specs.Minimum.{min_keys, min_serves}
 use Rattle.planning.specs.declared.plan.Plan.{Plan}
-use Rattle.planning.specs.Plan.{Places, ceiling, plan_of, plan_answer, planned}
+use Rattle.planning.specs.Plan.{Places, ceiling, plan_answer}
 use Rattle.planning.proofs.Ceilings.{min_optimal}
 use Rattle.planning.proofs.Lists.{same_ok}
 use Rattle.planning.proofs.Servings.{served}
