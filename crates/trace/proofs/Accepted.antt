@@ -18,9 +18,9 @@ pub then_parts : {T U E : Type 0} (r : Result T E) (f : T → Result U E) (y : U
 then_parts (Ok x) f y h = (x, refl, h)
 then_parts (Err e) f y h = never h
 
-pub okOr_parts : {T E : Type 0} (o : Option T) (e : E) (x : T) → ok_or o e ≡ Ok x → o ≡ Some x
-okOr_parts None e x h = never h
-okOr_parts (Some y) e x h = ap (λ z. Some z) (ok_same h)
+pub ok_or_parts : {T E : Type 0} (o : Option T) (e : E) (x : T) → ok_or o e ≡ Ok x → o ≡ Some x
+ok_or_parts None e x h = never h
+ok_or_parts (Some y) e x h = ap (λ z. Some z) (ok_same h)
 
 pub cond_parts : {T E : Type 0} (b : Bool) (x y : T) (e : E) → cond b (Ok x) (Err e) ≡ Ok y → (b ≡ true) × (x ≡ y)
 cond_parts true x y e h = (refl, ok_same h)
@@ -41,7 +41,7 @@ sectors_read n bs k h =
     let p = then_parts _ _ k h in
     let q = cond_parts (sized p.0) (p.0 / 512) k _ p.2 in
     let w = whole_sectors p.0 k q.0 q.1 in
-    (okOr_parts _ _ p.0 p.1 ∙ ap (λ z. Some z) w.0, w.1, w.2)
+    (ok_or_parts _ _ p.0 p.1 ∙ ap (λ z. Some z) w.0, w.1, w.2)
 
 -- what the fields of an accepted line hold
 pub record Held (asu lba size opcode stamp : List ℕ) (a : Access) : Type 0 where
@@ -66,12 +66,12 @@ fields_held n asu lba size opcode stamp a h =
     let counts = sectors_read n size r.0 r.1 in
     let P : Access → Type 0 = Held asu lba size opcode stamp in
     subst P (ok_same u.2) (record {
-      unit = okOr_parts _ _ _ p.1;
-      first = okOr_parts _ _ _ q.1;
+      unit = ok_or_parts _ _ _ p.1;
+      first = ok_or_parts _ _ _ q.1;
       bytes = counts.0;
       some = counts.1;
       few = counts.2;
-      asked = okOr_parts _ _ _ s.1;
+      asked = ok_or_parts _ _ _ s.1;
       stamped = (cond_parts _ _ _ _ t.1).0;
       last = omega (arith, counts.1);
     })

@@ -1,6 +1,6 @@
 -- Every trace within the limits is accepted. Assumes nothing.
 use Rattle.std.proofs.Common.{◌≡◌, ℕ, ◌+◌, ◌-◌, ◌*◌, ◌/◌, ◌%◌, ◌<◌, ◌≤◌, true, false, cond, ◌&&◌, eqb, List, [], ◌∷◌, ◌++◌, length, get_or, is_some, Some, Ok, Err, Result, sym, refl, ap, ◌∙◌, subst, append_assoc, append-nil, arith, length-append}
-use Rattle.std.specs.List.{AllByRecursion as All}
+use Rattle.std.specs.List.{AllByRecursion}
 use Rattle.std.proofs.ByRecursion.{All-append}
 use Rattle.std.proofs.lemmas.Bool.{le-leb}
 use Rattle.std.proofs.lemmas.Bool.Decides.{nat_tests}
@@ -12,14 +12,14 @@ use Rattle.trace.specs.declared.fault.LineFault.TheVariants as line-fault
 use Rattle.trace.specs.Splits.{parts, lines, Lacks}
 use Rattle.trace.specs.Numerals.{digit, all_digits, numeral}
 use Rattle.trace.specs.Accesses.{opcode_of, time_stamp, access_in, in_line, access_of, sectors_in}
-use Rattle.trace.specs.Touches.{touches, judged_lines}
+use Rattle.trace.specs.Touches.{judged_lines}
 use Rattle.trace.specs.Traces.{Number, OpcodeText, upper_r, lower_r, upper_w, lower_w, TimeStamp, whole, fraction, Line, Trace, none, last, fed, returned}
 use Rattle.trace.proofs.Numerals.{numeral_read}
 use Rattle.trace.proofs.Splitting.{parts_none, parts_cut, lines_fed, lines_only, unreturned_none, unreturned_one}
 use Rattle.trace.proofs.Stamps.{digits_lack, stamp_whole, stamp_cut}
 use Rattle.trace.proofs.Judging.{length-touches}
 
-numeric_all : (bs : List ℕ) → All (λ b. (48 ≤ b) × (b ≤ 57)) bs → all_digits bs ≡ true
+numeric_all : (bs : List ℕ) → AllByRecursion (λ b. (48 ≤ b) × (b ≤ 57)) bs → all_digits bs ≡ true
 numeric_all [] h = refl
 numeric_all (b ∷ bs) h = rw (le-leb 48 b h.0.0, le-leb b 57 h.0.1, numeric_all bs h.1)
 

@@ -1,4 +1,5 @@
 -- Reading accepts the traces within the limits, and no other text. Assumes nothing.
+use Rattle.std.specs.Result.{IsErr}
 use Rattle.std.proofs.Common.{◌≡◌, ℕ, ◌+◌, ◌≤◌, leb, List, map, length, take, Ok, Err, Result, sym, refl, ap, ◌∙◌, subst, arith}
 use Rattle.std.proofs.lemmas.Bool.{le-leb, leb-true}
 use Rattle.base.specs.Keys.{volume_code}
@@ -55,7 +56,7 @@ written_first : {E : Type 0} (r : Result (List ℕ) E) (ts : List ℕ) (before a
 written_first (Ok us) ts before after e w = subst (λ vs. map volume_code (take (length vs) after) ≡ vs) (ok_same e) w.first
 written_first (Err f) ts before after e w = never e
 
-reads_all : (text : List ℕ) (answer : Result ℕ ReplayFault) (before after : List VolumeKey) → answer ≡ counted (judged text (length before)) → Written (judged text (length before)) before after → Reads text answer before after
+pub reads_all : (text : List ℕ) (answer : Result ℕ ReplayFault) (before after : List VolumeKey) → answer ≡ counted (judged text (length before)) → Written (judged text (length before)) before after → Reads text answer before after
 reads_all text answer before after is written = record {
   sound = λ n e.
       let p = counted_parts (judged text (length before)) n (sym is ∙ e) in
@@ -87,3 +88,7 @@ module _ (text : List ℕ) (answer : Result ℕ ReplayFault) (before : List Volu
       let p = counted_parts (judged text (length before)) n (sym is ∙ e) in
       let same = ap accepted (judged_parts text (length before) p.0 p.1).accepts in
       owed after (Ok p.0) p.1 (subst (λ ts. Filled ts before after) same filled)
+
+pub reads_refused : (text : List ℕ) (answer : Result ℕ ReplayFault) (keys : List VolumeKey) → answer ≡ counted (judged text (length keys)) → IsErr answer → Reads text answer keys keys
+reads_refused text (Err f) keys is e = (owed_refused text (Err f) keys is f refl).reads
+reads_refused text (Ok n) keys is e = absurd cc

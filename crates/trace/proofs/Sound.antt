@@ -1,6 +1,6 @@
 -- An accepted text is a trace. Assumes nothing.
 use Rattle.std.proofs.Common.{◌≡◌, ℕ, ◌+◌, ◌*◌, ◌≤◌, Bool, true, false, cond, ◌&&◌, ◌||◌, eqb, leb, List, [], ◌∷◌, ◌++◌, length, get_or, is_some, Some, None, Ok, Option, sym, refl, ap, ◌∙◌, subst, inl, inr, append-nil, arith, length-append}
-use Rattle.std.specs.List.{AllByRecursion as All}
+use Rattle.std.specs.List.{AllByRecursion}
 use Rattle.std.proofs.lemmas.Bool.{cases_Bool, and_parts, and_right, or_cases, leb-true, eqb-true, false≢true}
 use Rattle.trace.specs.declared.access.Access.{Access}
 use Rattle.trace.specs.declared.access.Opcode.{Opcode}
@@ -23,7 +23,7 @@ some_of : {T : Type 0} (o : Option T) → is_some o ≡ true → (x : T) × (o �
 some_of None e = absurd (false≢true e)
 some_of (Some x) e = (x, refl)
 
-all_numeric : (bs : List ℕ) → all_digits bs ≡ true → All (λ b. (48 ≤ b) × (b ≤ 57)) bs
+all_numeric : (bs : List ℕ) → all_digits bs ≡ true → AllByRecursion (λ b. (48 ≤ b) × (b ≤ 57)) bs
 all_numeric [] e = tt
 all_numeric (b ∷ bs) e =
     let p = and_parts (digit b) (all_digits bs) e in

@@ -1,5 +1,6 @@
 -- What a line of a trace asks for, and how its fields are judged, from the left to the right. Assumes nothing.
-use Rattle.std.specs.Prelude.{ℕ, ◌+◌, ◌-◌, ◌/◌, ◌%◌, Bool, false, cond, ◌&&◌, ◌||◌, List, [], ◌∷◌, length, is_some, Some, None, Ok, Err, Option, Result, ◌==◌, nat_le, slice_index_or}
+use Rattle.std.specs.Prelude.{ℕ, ◌+◌, ◌-◌, ◌/◌, ◌%◌, ◌==◌, nat_le, Bool, false, cond, ◌&&◌, ◌||◌, List, [], ◌∷◌, length, slice_index_or}
+use Rattle.std.specs.Prelude.{Option, Some, None, is_some, Result, Ok, Err}
 use Rattle.std.specs.Option.{ok_or}
 use Rattle.base.specs.declared.refusal.Refusal.{Refusal}
 use Rattle.base.specs.declared.refusal.Refusal.TheVariants as refusal
@@ -38,7 +39,9 @@ sized size = (nat_le 512 size && nat_le size 65536) && size % 512 == 0
 
 -- the number of sectors that a size field asks for
 abbrev pub sectors_in : ℕ → List ℕ → Result ℕ FieldFault
-sectors_in n bs = and_then (ok_or (numeral 10 bs) (fault_at n field.Size refusal.NotANumber)) (λ size. cond (sized size) (Ok (size / 512)) (Err (fault_at n field.Size refusal.BadSize)))
+sectors_in n bs =
+    and_then (ok_or (numeral 10 bs) (fault_at n field.Size refusal.NotANumber)) (λ size.
+    cond (sized size) (Ok (size / 512)) (Err (fault_at n field.Size refusal.BadSize)))
 
 -- R or r reads, W or w writes
 abbrev pub opcode_of : List ℕ → Option Opcode
@@ -93,5 +96,7 @@ fields bs = parts comma bs
 abbrev pub access_of : ℕ → List ℕ → Result Access LineFault
 access_of n bs =
     cond (length (fields bs) == 5)
-    (in_line (access_in n (slice_index_or (fields bs) 0 []) (slice_index_or (fields bs) 1 []) (slice_index_or (fields bs) 2 []) (slice_index_or (fields bs) 3 []) (slice_index_or (fields bs) 4 [])))
+    (in_line (access_in n
+    (slice_index_or (fields bs) 0 []) (slice_index_or (fields bs) 1 []) (slice_index_or (fields bs) 2 [])
+    (slice_index_or (fields bs) 3 []) (slice_index_or (fields bs) 4 [])))
     (Err (line-fault.FieldCount n))

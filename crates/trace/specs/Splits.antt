@@ -1,6 +1,6 @@
 -- How a text splits: at a byte into parts, and at its line endings into lines. Assumes nothing.
 use Rattle.std.specs.Prelude.{◌≡◌, ℕ, Bool, false, cond, ◌&&◌, List, [], ◌∷◌, ◌++◌, ◌==◌, ◌≢◌}
-use Rattle.std.specs.List.{AllByRecursion as All}
+use Rattle.std.specs.List.{AllByRecursion}
 
 -- the byte between the fields of a line
 abbrev pub comma : ℕ
@@ -41,7 +41,7 @@ lines (b ∷ bs) = cond (b == line_feed) ([] ∷ lines bs) (cond (b == carriage_
 
 -- no byte equals the mark
 abbrev pub Lacks : ℕ → List ℕ → Type 0
-Lacks mark bs = All (λ b. b ≢ mark) bs
+Lacks mark bs = AllByRecursion (λ b. b ≢ mark) bs
 
 -- a text cut at its first mark
 pub record Cut (mark : ℕ) (text before behind : List ℕ) : Type 0 where

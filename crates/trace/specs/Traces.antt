@@ -1,6 +1,6 @@
 -- What a trace is: a text of lines with their endings, and the touches that its lines ask for. Assumes nothing.
 use Rattle.std.specs.Prelude.{◌≡◌, ℕ, ◌+◌, ◌*◌, ◌^◌, ◌≤◌, List, [], ◌∷◌, ◌++◌, map, length, take, Ok, codes, Result}
-use Rattle.std.specs.List.{AllByRecursion as All}
+use Rattle.std.specs.List.{AllByRecursion}
 use Rattle.base.specs.Keys.{volume_code}
 use Rattle.base.specs.declared.key.volume.VolumeKey.{VolumeKey}
 use Rattle.trace.specs.declared.fault.ReplayFault.{ReplayFault}
@@ -12,7 +12,7 @@ use Rattle.trace.specs.Touches.{upward}
 pub record Number (most : ℕ) (bs : List ℕ) (n : ℕ) : Type 0 where
   pub some : 1 ≤ length bs
   pub few : length bs ≤ most
-  pub digits : All (λ b. (48 ≤ b) × (b ≤ 57)) bs
+  pub digits : AllByRecursion (λ b. (48 ≤ b) × (b ≤ 57)) bs
   pub writes : value bs ≡ n
 
 -- an opcode is one letter of these four
@@ -66,7 +66,9 @@ pub record Within (text : List ℕ) (count places : ℕ) : Type 0 where
   pub few : count ≤ 4096
   pub room : count ≤ places
 
--- Reading accepts exactly the traces within the limits. It answers how many touches they have, and leaves these, by their codes, in the first places.
+-- Reading accepts exactly the traces within the limits. It answers how many touches they have, and leaves these, by their codes,
+-- in the first places.
 pub record Reads (text : List ℕ) (answer : Result ℕ ReplayFault) (before after : List VolumeKey) : Type 0 where
   pub sound : (n : ℕ) → answer ≡ Ok n → Within text n (length before) × Trace text (map volume_code (take n after))
-  pub complete : (ts : List ℕ) → Trace text ts → Within text (length ts) (length before) → (answer ≡ Ok (length ts)) × (map volume_code (take (length ts) after) ≡ ts)
+  pub complete : (ts : List ℕ) → Trace text ts → Within text (length ts) (length before) →
+      (answer ≡ Ok (length ts)) × (map volume_code (take (length ts) after) ≡ ts)

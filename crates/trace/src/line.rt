@@ -27,7 +27,8 @@ struct Fields<'a> {
 impl<'a> Line<'a> {
     // The five fields between commas, unless there are more or fewer.
     fn split(&self) -> Option<Fields<'a>>
-        ensures { MatchOption result (length (fields self.now.text.now) ≢ 5) (λ f. fields self.now.text.now ≡ f.asu.now ∷ (f.lba.now ∷ (f.size.now ∷ (f.opcode.now ∷ (f.stamp.now ∷ []))))) }
+        ensures { MatchOption result (length (fields self.now.text.now) ≢ 5)
+            (λ f. fields self.now.text.now ≡ f.asu.now ∷ (f.lba.now ∷ (f.size.now ∷ (f.opcode.now ∷ (f.stamp.now ∷ []))))) }
     {
         let (asu, rest) = split_once(self.text, b',')?;
         let (lba, rest) = split_once(rest, b',')?;

@@ -15,6 +15,7 @@ const MAX_TEXT_BYTES: usize = 32_768;
 const MAX_TOUCHES: usize = 4_096;
 
 // Reads a trace into keys, one for each touch, and answers how many.
+#[tactic(auto, using(crate::proofs::Exact::reads_all, crate::proofs::Exact::reads_refused))]
 pub fn read_trace(text: &[u8], keys: &mut [VolumeKey]) -> Result<usize, ReplayFault>
     ensures answer { result ≡ counted (judged text.now (length keys.old)) }
     ensures keys { Written (judged text.now (length keys.old)) keys.old keys.new }
