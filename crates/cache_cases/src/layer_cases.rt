@@ -6,6 +6,7 @@ use base::Geometry;
 use cache::{Cache, SetUpCache};
 use disk::{Disk, ImageDisk, JoinedDisk};
 use policy::{Lru, Policy};
+use std::test::Fail;
 
 // What the calls of a cache answer, and its F after them.
 #[derive(Clone, Copy)]

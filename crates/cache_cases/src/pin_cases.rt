@@ -7,6 +7,7 @@ use base::Geometry;
 use cache::{Cache, SetUpCache};
 use disk::{Disk, ImageDisk};
 use policy::{Lru, Policy};
+use std::test::Fail;
 
 // Pins while there is a free place, the last of which takes it.
 fn pin_with_room<D: Disk, P: Policy>(set_up: &mut SetUpCache<D, P>) -> [u8; 5]

@@ -6,6 +6,7 @@ use base::Geometry;
 use cache::{Cache, SetUpCache};
 use disk::{Disk, ImageDisk};
 use policy::{Clock, Fifo, Lru, Policy};
+use std::test::Fail;
 
 const READS: [u32; 12] = [1, 2, 3, 4, 1, 2, 5, 1, 2, 3, 4, 5];
 

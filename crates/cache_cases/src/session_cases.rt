@@ -8,6 +8,7 @@ use disk::{Disk, ImageDisk, Request, Turn};
 use policy::{Lru, Policy};
 use std::alloc::Global;
 use std::process::Abort;
+use std::test::Fail;
 
 // What the session's writes and reads answer.
 #[derive(Clone, Copy)]

@@ -7,6 +7,7 @@ use base::Geometry;
 use cache::{Cache, SetUpCache};
 use disk::{Disk, ImageDisk};
 use policy::{Lru, Policy};
+use std::test::Fail;
 
 // Pins the first eight sectors, and answers whether every pin was accepted.
 fn pin_eight<D: Disk, P: Policy>(set_up: &mut SetUpCache<D, P>) -> bool

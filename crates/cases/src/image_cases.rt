@@ -3,6 +3,7 @@ use crate::disk_helpers::*;
 use disk::{Disk, ImageDisk};
 use std::alloc::Global;
 use std::process::Abort;
+use std::test::Fail;
 
 // Bytes of an image, and its whole sectors.
 const COUNTS: [(usize, u32); 5] = [(0, 0), (511, 0), (512, 1), (1025, 2), (2048, 4)];

@@ -3,6 +3,7 @@ use crate::disk_helpers::*;
 use disk::{Disk, ImageDisk, JoinedDisk};
 use std::alloc::Global;
 use std::process::Abort;
+use std::test::Fail;
 
 // A disk of four sectors, the last of them dead. Sectors 1 and 2 hold 10 and 11.
 fn check_calls<D: Disk>(rt: &impl Abort, heap: Global, disk: &mut D) -> Result<(), Fail>

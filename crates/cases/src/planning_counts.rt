@@ -6,6 +6,7 @@ use index::Slot;
 use planning::{ceiling, forecast_touches, plan_touches};
 use policy::{Clock, Fifo, Lru, Policy};
 use std::process::Abort;
+use std::test::Fail;
 use trace::read_trace;
 
 #[test]

@@ -7,6 +7,7 @@ use planning::{plan_touches, replay_keys};
 use policy::Lru;
 use std::alloc::Global;
 use std::process::Abort;
+use std::test::Fail;
 
 // What every place of a list has before a call.
 const FILL: u8 = 7;

@@ -5,6 +5,7 @@ use base::Sector;
 use index::Slot;
 use policy::{Clock, Fifo, Lru, Policy};
 use std::process::Abort;
+use std::test::Fail;
 
 // Uses before and after the two places of a policy with two frames.
 fn check_uses<P: Policy>(rt: &impl Abort, policy: &mut P) {

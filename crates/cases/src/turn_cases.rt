@@ -4,6 +4,7 @@ use crate::helpers::number_of;
 use disk::{ImageDisk, Request, Turn, serve_turns};
 use std::alloc::Global;
 use std::process::Abort;
+use std::test::Fail;
 
 // A turn: its task, request, sector and the bytes of its buffer; and how it ends: the number of the refusal, 0 for
 // none, and the byte that its buffer has throughout.
