@@ -1,5 +1,5 @@
 -- What a write does to an image, sector by sector.
-use Rattle.std.proofs.Common.{◌≡◌, ℕ, ◌+◌, ◌*◌, ◌/◌, ◌<◌, ◌≤◌, List, ◌++◌, length, take, drop, Ok, sym, ap, ◌∙◌, inl, inr, arith}
+use Rattle.std.proofs.Common.{◌≡◌, ℕ, ◌+◌, ◌*◌, ◌/◌, ◌<◌, ◌≤◌, cond, List, ◌++◌, length, take, drop, Ok, sym, ap, ◌∙◌, inl, inr, arith}
 use mathlib.Core.Path.{fun_ext}
 use borrow.Rule.Slice.PartMut.{put_mid}
 use Rattle.std.proofs.lemmas.List.{length-append, length-take-le, length-drop, drop-drop, drop_at, take_at, drop-take}
@@ -66,6 +66,18 @@ image_after image dead reads writes x buffer e =
     let l = live_answer m x (length buffer) e in
     written_meaning image x buffer (omega (arith, l.inside)) l.whole dead reads writes ∙
     sym (cond-true (serves m x (length buffer)) (written_one m x buffer) m (served m x (length buffer) e))
+
+-- what a served write leaves of a disk over an image, and of the image
+pub disk_written : (image dead : List ℕ) (reads writes x : ℕ) (buffer image' : List ℕ) (writes' : ℕ) →
+    Ok tt ≡ answer (image_of image dead reads writes) x (length buffer) → image' ≡ image_written image x buffer → writes' ≡ raised writes →
+    image_of image' dead reads writes' ≡ after_write (image_of image dead reads writes) x buffer
+disk_written image dead reads writes x buffer image' writes' e w n = rw (w, n) (image_after image dead reads writes x buffer e)
+
+pub image_put : (image dead : List ℕ) (reads writes x : ℕ) (buffer image' : List ℕ) → Ok tt ≡ answer (image_of image dead reads writes) x (length buffer) →
+    image' ≡ image_written image x buffer →
+    image' ≡ cond (serves (image_of image dead reads writes) x (length buffer)) (image_written image x buffer) image
+image_put image dead reads writes x buffer image' e w =
+    w ∙ sym (cond-true (serves (image_of image dead reads writes) x (length buffer)) (image_written image x buffer) image (served (image_of image dead reads writes) x (length buffer) e))
 
 -- each sector of an image has 512 bytes
 pub image_sized : (image : List ℕ) (x : ℕ) → x < whole_sectors image → length (sector_of image x) ≡ 512

@@ -89,6 +89,7 @@ impl<'a> ImageDisk<'a> {
         Ok(())
     }
 
+    #[tactic(auto, using(crate::proofs::Images::disk_written, crate::proofs::Images::image_put))]
     pub fn write_sector(&mut self, sector: u32, buffer: &[u8]) -> Result<(), Refusal>
         ensures answers { result ≡ answer (imaged self.old) sector (length buffer.now) }
         ensures after { imaged self.new ≡ after_write (imaged self.old) sector buffer.now }
