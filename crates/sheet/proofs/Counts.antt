@@ -1,5 +1,5 @@
 -- Replays and plans in memory with enough places.
-use Rattle.std.proofs.Common.{◌≡◌, ℕ, ◌≤◌, max, List, length, Ok, sym, refl, ap, ◌∙◌, arith}
+use Rattle.std.proofs.Common.{◌≡◌, ℕ, ◌≤◌, max, List, length, Ok, arith}
 use Rattle.policy.specs.Machine.{Rules, start, fetches}
 use Rattle.planning.specs.Plan.{Places, plan_of, planned}
 use Rattle.planning.specs.Replay.{replayed}

@@ -1,4 +1,4 @@
-use Rattle.std.proofs.Common.{◌≡◌, ℕ, ◌≤◌, List, [], map, length, Ok, Err, sym, refl, ap, ◌∙◌, arith}
+use Rattle.std.proofs.Common.{◌≡◌, ℕ, ◌≤◌, List, [], map, Ok, sym, refl, ap, ◌∙◌, arith}
 use Rattle.std.proofs.lemmas.List.{length-map}
 use Rattle.base.specs.Geometries.{frames_of}
 use Rattle.policy.specs.Machine.{start, fetches}
@@ -6,7 +6,6 @@ use Rattle.policy.specs.Lru.{lru_rules}
 use Rattle.policy.specs.Fifo.{fifo_rules}
 use Rattle.policy.specs.Clock.{clock_rules}
 use Rattle.planning.specs.Minimum.{min_fetches}
-use Rattle.planning.specs.Plan.{plan_of}
 use Rattle.planning.specs.declared.plan.Plan.{Plan}
 use Rattle.planning.proofs.Lists.{never, same_ok}
 use Rattle.sheet.specs.declared.row.Row.{Row}
