@@ -2,4 +2,4 @@ pub mod Refusals
 pub mod Geometries
 pub mod Keys
 pub mod Lists
-pub mod VolumeKeyKeyLemmas
+pub mod VolumeCodes

@@ -48,8 +48,8 @@ pub fn sheet_of_trace(
     held: &mut [u32],
     serving: &mut [u8],
 ) -> Result<[Row; 6], ReplayFault>
-    ensures answer { result ≡ sheet_of text.now (record { keys = length keys.entry.now; slots = length slots.old; next = length next.old; held = length held.old; serving = length serving.old }) }
-    ensures keys { Written (touches_for text.now (record { keys = length keys.entry.now; slots = length slots.old; next = length next.old; held = length held.old; serving = length serving.old })) keys.entry.now keys.exit.now }
+    ensures answer { result ≡ sheet_of text.now (record { keys = length keys.old; slots = length slots.old; next = length next.old; held = length held.old; serving = length serving.old }) }
+    ensures keys { Written (touches_for text.now (record { keys = length keys.old; slots = length slots.old; next = length next.old; held = length held.old; serving = length serving.old })) keys.old keys.new }
     ensures refused { is_ok result ≡ false → (slots.new ≡ slots.old) × (next.new ≡ next.old) × (held.new ≡ held.old) × (serving.new ≡ serving.old) }
 {
     let room = keys

@@ -25,7 +25,7 @@ pub fn forecast_touches<P: Policy + Drop, K: Key>(
 ) -> Result<Forecast, Refusal>
 where
     P::Setting: Drop,
-    ensures answer { result ≡ forecasted P.Policy.rules setting (map K.Key.code keys.now) frames smaller (record { slots = length slots.entry.now; next = length next.old; held = length held.old; serving = length serving.old }) }
+    ensures answer { result ≡ forecasted P.Policy.rules setting (map K.Key.code keys.now) frames smaller (record { slots = length slots.old; next = length next.old; held = length held.old; serving = length serving.old }) }
     ensures serving { serving.new ≡ (if is_ok result then min_serves smaller [] (map K.Key.code keys.now) ++ drop (length keys.now) serving.old else serving.old) }
     ensures bounded { IfOk result (λ f. Bounded frames smaller (map K.Key.code keys.now) (take (length keys.now) serving.new) f.plan.fetches f.plan.ceiling f.fetches) }
     ensures competitive { Competitive P.Policy.rules }

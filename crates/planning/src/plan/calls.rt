@@ -95,7 +95,7 @@ pub fn plan_touches<K: Key>(
     held: &mut [u32],
     serving: &mut [u8],
 ) -> Result<Plan, Refusal>
-    ensures answer { result ≡ planned (map K.Key.code keys.now) frames smaller (record { slots = length slots.entry.now; next = length next.old; held = length held.old; serving = length serving.old }) }
+    ensures answer { result ≡ planned (map K.Key.code keys.now) frames smaller (record { slots = length slots.old; next = length next.old; held = length held.old; serving = length serving.old }) }
     ensures serving { serving.new ≡ (if is_ok result then min_serves smaller [] (map K.Key.code keys.now) ++ drop (length keys.now) serving.old else serving.old) }
     ensures optimal { IfOk result (λ p. Optimal smaller (map K.Key.code keys.now) (take (length keys.now) serving.new) p.fetches) }
     ensures schedules { ServingsAreSchedules }

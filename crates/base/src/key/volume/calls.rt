@@ -1,10 +1,8 @@
 // Making a volume key, and its code.
-ghost use Rattle.std.specs.Prelude.{◌≡◌, ◌+◌, ◌*◌, ◌^◌, ◌<◌};
+ghost use Rattle.std.specs.Prelude.{◌≡◌, ◌+◌, ◌*◌, ◌^◌};
+ghost use Rattle.std.proofs.Common.{ap};
 ghost use Rattle.base.specs.Keys.{volume_code, volume_spread};
-ghost use mathlib.Core.HLevel.{is_prop→PathP};
-ghost use Rattle.std.proofs.Math.Bridge.{le_prop};
-ghost use Rattle.base.specs.VolumeKeyKeyLemmas.{same_unit, same_number};
-ghost use Rattle.std.proofs.Common.{rules, arith};
+ghost use Rattle.base.specs.VolumeCodes.{same_key};
 
 use super::VolumeKey;
 use crate::key::Key;
@@ -37,14 +35,11 @@ impl Key for VolumeKey {
 
     ghost spread = { volume_spread };
 
-    ghost faithful = { λ a b e.
-        let p = same_unit a b e in
-        let q = same_number a b e in
-        λ i. record { asu = p i; lba = q i; fits = is_prop→PathP (λ j. q j < 2 ^ 32) (λ j. le_prop) a.fits b.fits i } };
+    ghost faithful = { same_key };
 
-    ghost coded = { first_of (Prim.search rules, Prim.grind (arith, Self.row.coded.inj)) };
+    ghost coded = { λ a b. ap volume_code };
 
-    ghost together = { first_of (Prim.search rules, Prim.grind (arith, Self.row.coded.inj)) };
+    ghost together = { λ a b. ap volume_spread };
 
     fn code(&self) -> u64 {
         (self.asu as u64) * 0x1_0000_0000 + self.lba as u64
