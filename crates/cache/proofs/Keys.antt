@@ -19,10 +19,10 @@ place_below x [] h = absurd (true≢false (sym h))
 place_below x (y ∷ ys) h =
     elim (cases_Bool (eqb x y)) [ inl e ↦ rw e (omega arith) | inr e ↦ rw e (let k : place_in x ys < length ys = place_below x ys (rw e at h) in omega arith) ]
 
-pub place_getD : (x : ℕ) (xs : List ℕ) → member x xs ≡ true → get_or xs (place_in x xs) 0 ≡ x
-place_getD x [] h = absurd (true≢false (sym h))
-place_getD x (y ∷ ys) h =
-    elim (cases_Bool (eqb x y)) [ inl e ↦ rw e (sym (eqb-true x y e)) | inr e ↦ rw e (place_getD x ys (rw e at h)) ]
+pub place_index : (x : ℕ) (xs : List ℕ) → member x xs ≡ true → get_or xs (place_in x xs) 0 ≡ x
+place_index x [] h = absurd (true≢false (sym h))
+place_index x (y ∷ ys) h =
+    elim (cases_Bool (eqb x y)) [ inl e ↦ rw e (sym (eqb-true x y e)) | inr e ↦ rw e (place_index x ys (rw e at h)) ]
 
 -- a key that stands at i, and nowhere before it, has i as its place
 pub first_at : (x : ℕ) (xs : List ℕ) (i : ℕ) → i < length xs → get_or xs i 0 ≡ x → member x (take i xs) ≡ false →

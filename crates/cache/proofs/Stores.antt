@@ -9,7 +9,7 @@ use Rattle.disk.specs.Meaning.{replaced}
 use Rattle.cache.specs.declared.store.Store.{Store}
 use Rattle.cache.specs.Places.{held, stored, installed, cleaned, Whole}
 use Rattle.cache.specs.View.{Holding, shown}
-use Rattle.cache.proofs.Keys.{place_below, place_getD, never_at, member_at}
+use Rattle.cache.proofs.Keys.{place_below, place_index, never_at, member_at}
 
 -- no place of a store holds a sector
 abbrev pub Absent : Store → ℕ → Type 0
@@ -31,7 +31,7 @@ module _ (s : Store) (whole : Whole s) (most : s.used ≤ 72) where
   pub at_place : (x : ℕ) → member x (held s) ≡ true → HeldAt s x (place_in x (held s))
   at_place x h =
       let b : place_in x (held s) < s.used = rw held_length at (place_below x (held s) h) in
-      (b, sym (held_at (place_in x (held s)) b) ∙ place_getD x (held s) h)
+      (b, sym (held_at (place_in x (held s)) b) ∙ place_index x (held s) h)
 
   pub absent_from : (x : ℕ) → member x (held s) ≡ false → Absent s x
   absent_from x h i b e = never_at x (held s) i h (rw held_length b) (held_at i b ∙ e)

@@ -9,10 +9,10 @@ use Rattle.index.specs.Maps.{Map, empty}
 use Rattle.planning.specs.Frames.{Shows, Room}
 use Rattle.planning.specs.Minimum.{furthest, min_frame, min_keys, min_serves, min_fetches}
 use Rattle.planning.specs.Chosen.{LowestFurthest, Chosen, NextTouch, next_of}
-use Rattle.planning.proofs.Members.{member_getD}
+use Rattle.planning.proofs.Members.{member_index}
 use Rattle.planning.proofs.Replays.{found_some, found_none}
 use Rattle.planning.proofs.Furthest.{furthest_lowest, furthest_lt, lowest_one}
-use Rattle.policy.specs.Members.{place_within, getD_place, apart_push, apart_set}
+use Rattle.policy.specs.Members.{place_within, index_place, apart_push, apart_set}
 
 -- the keys that MIN holds after i touches
 abbrev pub min_after : ℕ → List ℕ → List ℕ → ℕ → List ℕ
@@ -37,7 +37,7 @@ place_of [] g p l = absurd (omega arith)
 place_of (y ∷ ys) zero p l = grind (arith, nat_tests)
 place_of (y ∷ ys) (suc g) p l =
     let ih = place_of ys g p.1 (omega arith) in
-    let m = member_getD ys g (omega arith) in
+    let m = member_index ys g (omega arith) in
     let ne : eqb (get_or ys g 0) y ≡ false = ne_eqb (get_or ys g 0) y (λ e. let w : member y ys ≡ true = rw (sym e) m in grind arith) in
     rw ne (ap suc ih)
 
@@ -75,7 +75,7 @@ module _ (h : ℕ) (xs next hs : List ℕ) (index : Map) (out : List ℕ) (n i :
   pub chosen : (f : ℕ) → member x ks ≡ false → 1 ≤ length ks → LowestFurthest (length ks) (next_of next hs) f → f ≡ furthest ks rest
   chosen f new some p =
       let other : (g : ℕ) → g < length ks → next_of next hs g ≡ i + 1 + place_in (get_or ks g 0) rest =
-      λ g l. others g l (ne_eqb (get_or ks g 0) x (λ e. let m : member x ks ≡ true = rw (sym e) (member_getD ks g l) in grind arith)) in
+      λ g l. others g l (ne_eqb (get_or ks g 0) x (λ e. let m : member x ks ≡ true = rw (sym e) (member_index ks g l) in grind arith)) in
       lowest_one (length ks) (λ g. place_in (get_or ks g 0) rest) f (furthest ks rest)
       (record {
         within = p.within;
@@ -129,7 +129,7 @@ module _ (h : ℕ) (xs next hs : List ℕ) (index : Map) (out : List ℕ) (n i :
       let q = found_frame f e in
       let l = found_low f e in
       let same : min_keys h ks x rest ≡ ks = rw q.0 in
-      let at_f : get_or ks f 0 ≡ x = rw q.1 (getD_place x ks q.0) in
+      let at_f : get_or ks f 0 ≡ x = rw q.1 (index_place x ks q.0) in
       let step = along_step f index (rw q.0 q.1) room (omega (arith, a.few)) (rw same (record {
         found = a.shows.found;
         sized = a.shows.sized;
@@ -172,7 +172,7 @@ module _ (h : ℕ) (xs next hs : List ℕ) (index : Map) (out : List ℕ) (n i :
   ]
     where
       fresh : (g : ℕ) → g < length ks → eqb (get_or ks g 0) x ≡ false
-      fresh g l = ne_eqb (get_or ks g 0) x (λ e. let m : member x ks ≡ true = rw (sym e) (member_getD ks g l) in grind arith)
+      fresh g l = ne_eqb (get_or ks g 0) x (λ e. let m : member x ks ≡ true = rw (sym e) (member_index ks g l) in grind arith)
 
       done_fetch : Along h xs next (set hs f i) index' (set out i f) (n + cond (member x ks) 0 1) (i + 1) → Along h xs next (set hs f i) index' (set out i f) (n + 1) (i + 1)
       done_fetch step = rw new at step

@@ -8,7 +8,7 @@ use Rattle.base.specs.Lists.{member, Apart}
 use Rattle.policy.specs.Machine.{put}
 use Rattle.index.specs.Maps.{Map, stored, after_remove, has, accepts, put_answer, after_put}
 use Rattle.planning.specs.Frames.{frame_of, Shows, Room, without_frame}
-use Rattle.planning.proofs.Members.{member_getD}
+use Rattle.planning.proofs.Members.{member_index}
 
 -- one frame more, with a new key
 frame_push : (keys : List ℕ) (x y : ℕ) → member x keys ≡ false →
@@ -23,7 +23,7 @@ frame_set [] f x y a h e = absurd (omega arith)
 frame_set (z ∷ zs) zero x y a h e = grind (arith, nat_tests)
 frame_set (z ∷ zs) (suc f) x y a h e =
     let ih = frame_set zs f x y in
-    let m = member_getD zs f (omega arith) in
+    let m = member_index zs f (omega arith) in
     let n : eqb z (get_or zs f 0) ≡ false = ne_eqb z (get_or zs f 0) (λ q. let w : member z zs ≡ true = rw q m in grind arith) in
     grind (arith, nat_tests)
 
@@ -56,7 +56,7 @@ module _ (touches hs : List ℕ) (index : Map) (keys : List ℕ) (f place : ℕ)
   shows_swap apart low = record {
     found = λ y. rw (q.found y, frame_set keys f (get_or touches place 0) y apart low fresh);
     sized =
-        let out : has index (get_or keys f 0) ≡ true = ap is_some (q.found (get_or keys f 0)) ∙ rw (member_getD keys f low) in
+        let out : has index (get_or keys f 0) ≡ true = ap is_some (q.found (get_or keys f 0)) ∙ rw (member_index keys f low) in
         let new : has (after_remove index (get_or keys f 0)) (get_or touches place 0) ≡ false =
         elim (cases_Bool (eqb (get_or keys f 0) (get_or touches place 0))) [
           | inl e ↦ rw e
@@ -84,7 +84,7 @@ holds_new touches hs index keys f filled place q inside room = elim (cases_lt f 
   | inl l ↦
       let low : f < length keys = omega (arith, q.counted) in
       let sh = shows_swap touches hs index keys f place q.shows q.new inside room q.apart low in
-      let out : has index (get_or keys f 0) ≡ true = ap is_some (q.shows.found (get_or keys f 0)) ∙ rw (member_getD keys f low) in
+      let out : has index (get_or keys f 0) ≡ true = ap is_some (q.shows.found (get_or keys f 0)) ∙ rw (member_index keys f low) in
       let size : (after_remove index (get_or keys f 0)).size < index.places = rw out (omega (arith, q.free, q.shows.sized, q.counted)) in
       let take' : accepts (after_remove index (get_or keys f 0)) (get_or touches place 0) ≡ true = or_right _ _ (lt-ltb _ _ size) in
       rw (lt-ltb f filled l, q.shows.holds f low, take', lt-ltb f (length keys) low) (refl, sh)

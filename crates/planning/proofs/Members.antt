@@ -40,7 +40,7 @@ distinct_within (x ∷ xs) ys part =
     grind (arith, fresh, distinct_within xs ys tail, length_without x ys here)
 
 -- what a list has at a place is one of its members
-pub member_getD : (xs : List ℕ) (i : ℕ) → i < length xs → member (get_or xs i 0) xs ≡ true
-member_getD [] i h = absurd (omega arith)
-member_getD (x ∷ xs) zero h = grind (arith, nat_tests)
-member_getD (x ∷ xs) (suc i) h = let ih = member_getD xs i in grind (arith, nat_tests)
+pub member_index : (xs : List ℕ) (i : ℕ) → i < length xs → member (get_or xs i 0) xs ≡ true
+member_index [] i h = absurd (omega arith)
+member_index (x ∷ xs) zero h = grind (arith, nat_tests)
+member_index (x ∷ xs) (suc i) h = let ih = member_index xs i in grind (arith, nat_tests)

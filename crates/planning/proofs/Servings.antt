@@ -7,7 +7,7 @@ use Rattle.base.specs.Lists.{member, place_in, without}
 use Rattle.planning.specs.Minimum.{furthest, min_serves, min_fetches}
 use Rattle.planning.specs.Schedules.{Demand, Serving, done, hit, fill, swap}
 use Rattle.planning.proofs.Within.{within, within_push, within_set, within_has, within_lacks, within_without}
-use Rattle.planning.proofs.Members.{length_without, member_getD}
+use Rattle.planning.proofs.Members.{length_without, member_index}
 use Rattle.planning.proofs.Furthest.{furthest_lt}
 
 -- the frame that holds x
@@ -15,14 +15,14 @@ place_lt : (x : ℕ) (keys : List ℕ) → member x keys ≡ true → place_in x
 place_lt x [] h = grind arith
 place_lt x (y ∷ ys) h = grind (arith, nat_tests, place_lt x ys)
 
-place_getD : (x : ℕ) (keys : List ℕ) → member x keys ≡ true → get_or keys (place_in x keys) 0 ≡ x
-place_getD x [] h = grind arith
-place_getD x (y ∷ ys) h = grind (arith, nat_tests, place_getD x ys)
+place_index : (x : ℕ) (keys : List ℕ) → member x keys ≡ true → get_or keys (place_in x keys) 0 ≡ x
+place_index x [] h = grind arith
+place_index x (y ∷ ys) h = grind (arith, nat_tests, place_index x ys)
 
 pub min_serving : (h : ℕ) → 1 ≤ h → (keys touches : List ℕ) → length keys ≤ h → Serving h keys touches (min_serves h keys touches) (min_fetches h keys touches)
 min_serving h some keys [] few = done
 min_serving h some keys (x ∷ rest) few = elim (cases_Bool (member x keys)) [
-  | inl has ↦ rw (has, zero-add) (hit (place_lt x keys has) (place_getD x keys has) (min_serving h some keys rest few))
+  | inl has ↦ rw (has, zero-add) (hit (place_lt x keys has) (place_index x keys has) (min_serving h some keys rest few))
   | inr lacks ↦ elim (cases_Bool (ltb (length keys) h)) [
     | inl e ↦
         let room = ltb-true (length keys) h e in
@@ -49,7 +49,7 @@ module _ {keys held : List ℕ} (same : Same keys held) where
   same_set : (f x : ℕ) → f < length keys → Same (set keys f x) (x ∷ without (get_or keys f 0) held)
   same_set f x l =
       let y = get_or keys f 0 in
-      let old = same_member y true (member_getD keys f l) in
+      let old = same_member y true (member_index keys f l) in
       record {
         sizes = omega (arith, length-set keys f x, length_without y held old, same.sizes);
         counts = λ w. omega (arith, within_set keys f x (w ∷ []) l, within_without y held (w ∷ []) old, same.counts w);
@@ -57,11 +57,11 @@ module _ {keys held : List ℕ} (same : Same keys held) where
 
 serving_demand : {h : ℕ} {keys held touches frames : List ℕ} {d : ℕ} → Serving h keys touches frames d → Same keys held → Demand h held touches d
 serving_demand done same = done
-serving_demand (hit {keys} {f = f} l e more) same = hit (rw e at (same_member same (get_or keys f 0) true (member_getD keys f l))) (serving_demand more same)
+serving_demand (hit {keys} {f = f} l e more) same = hit (rw e at (same_member same (get_or keys f 0) true (member_index keys f l))) (serving_demand more same)
 serving_demand (fill {keys} {x} new room more) same = fill (same_member same x false new) (omega arith) (serving_demand more (same_push same x))
 serving_demand (swap {keys} {x} {f} new full l more) same =
     let in-keys : f < length keys = omega arith in
-    swap (same_member same x false new) (omega arith) (get_or keys f 0) (same_member same (get_or keys f 0) true (member_getD keys f in-keys)) (serving_demand more (same_set same f x in-keys))
+    swap (same_member same x false new) (omega arith) (get_or keys f 0) (same_member same (get_or keys f 0) true (member_index keys f in-keys)) (serving_demand more (same_set same f x in-keys))
 
 pub served : (h d : ℕ) (touches frames : List ℕ) → Serving h [] touches frames d → Demand h [] touches d
 served h d touches frames serving = serving_demand serving (record { sizes = refl; counts = λ _. refl })

@@ -8,7 +8,7 @@ use Rattle.policy.specs.Machine.{Rules, Machine, put, start, hit, fetch, touched
 use Rattle.policy.specs.Law.{Conservative}
 use Rattle.policy.specs.Shape.{Running}
 use Rattle.policy.specs.Order.{OrderedBy}
-use Rattle.policy.specs.Members.{Among, member_first, place_within, getD_place, among_itself}
+use Rattle.policy.specs.Members.{Among, member_first, place_within, index_place, among_itself}
 use Rattle.policy.specs.Steps.{Step, fills, swaps, Recent, later_recent, step_recent}
 use Rattle.policy.specs.Shapes.{reached_valid, ordered_shape}
 use Rattle.policy.specs.Machines.{put_next, put_over, held_most, running, running_hit, running_fetch}
@@ -52,7 +52,7 @@ module _ {Setting State : Type 0} {r : Rules Setting State} {valid : State → T
     recent_hit whole x j e w h =
         let f = place_in x m.keys in
         let inside : f < length m.keys = place_within x m.keys e in
-        later_recent whole j m.keys _ _ f (o.used_order m.policy ok f (rw held at inside)) (inside, rw (getD_place x m.keys e) w) h
+        later_recent whole j m.keys _ _ f (o.used_order m.policy ok f (rw held at inside)) (inside, rw (index_place x m.keys e) w) h
 
   -- all frames of the order but the first j hold keys of whole: a fetch takes one of those j, or an empty frame
   fetches_left : 1 ≤ k → (whole : List ℕ) → distinct whole ≤ k → (rest : List ℕ) → Among whole rest → (m : Machine State) → Running r k m →

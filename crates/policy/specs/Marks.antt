@@ -19,10 +19,10 @@ count m = cond m 1 0
 abbrev pub counted_state : ClockState → CountState
 counted_state s = record { size = s.size; filled = s.filled; hand = s.hand; top = 1; counts = map count s.marks }
 
-getD_count : (ms : List Bool) (i : ℕ) → slice_index (map count ms) i ≡ count (slice_index_or ms i false)
-getD_count [] i = refl
-getD_count (m ∷ ms) zero = refl
-getD_count (m ∷ ms) (suc i) = getD_count ms i
+index_count : (ms : List Bool) (i : ℕ) → slice_index (map count ms) i ≡ count (slice_index_or ms i false)
+index_count [] i = refl
+index_count (m ∷ ms) zero = refl
+index_count (m ∷ ms) (suc i) = index_count ms i
 
 count_none : (k : ℕ) → map count (replicate k false) ≡ replicate k 0
 count_none zero = refl
@@ -34,10 +34,10 @@ sweep_counts zero s = refl
 sweep_counts (suc n) s =
     elim (cases_Bool (slice_index_or s.marks s.hand false)) [
       | inl e ↦
-          let one : get_or (map count s.marks) s.hand 0 ≡ 1 = getD_count s.marks s.hand ∙ ap count e in
+          let one : get_or (map count s.marks) s.hand 0 ≡ 1 = index_count s.marks s.hand ∙ ap count e in
           rw (e, one, ← map-set count s.marks s.hand false) (sweep_counts n (cleared s))
       | inr e ↦
-          let none : get_or (map count s.marks) s.hand 0 ≡ 0 = getD_count s.marks s.hand ∙ ap count e in
+          let none : get_or (map count s.marks) s.hand 0 ≡ 0 = index_count s.marks s.hand ∙ ap count e in
           rw (e, none)
     ]
 

@@ -37,9 +37,9 @@ pub place_within : (x : ℕ) (xs : List ℕ) → member x xs ≡ true → place_
 place_within x [] e = grind arith
 place_within x (y ∷ ys) e = let ih = place_within x ys in grind (arith, nat_tests)
 
-pub getD_place : (x : ℕ) (xs : List ℕ) → member x xs ≡ true → slice_index xs (place_in x xs) ≡ x
-getD_place x [] e = grind arith
-getD_place x (y ∷ ys) e = let ih = getD_place x ys in grind (arith, nat_tests)
+pub index_place : (x : ℕ) (xs : List ℕ) → member x xs ≡ true → slice_index xs (place_in x xs) ≡ x
+index_place x [] e = grind arith
+index_place x (y ∷ ys) e = let ih = index_place x ys in grind (arith, nat_tests)
 
 -- a member of a list that grows at its end
 pub member_push : (x y : ℕ) (xs : List ℕ) → member x (xs ++ (y ∷ [])) ≡ (member x xs || x == y)

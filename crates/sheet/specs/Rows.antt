@@ -7,7 +7,7 @@ use Rattle.policy.specs.Fifo.{fifo_rules}
 use Rattle.policy.specs.Clock.{clock_rules}
 use Rattle.planning.specs.Minimum.{min_fetches}
 use Rattle.trace.specs.declared.fault.ReplayFault.{ReplayFault}
-use Rattle.trace.specs.declared.fault.ReplayFault.TheVariants as replay-fault
+use Rattle.trace.specs.declared.fault.ReplayFault.TheVariants as replay_fault
 use Rattle.trace.specs.Accesses.{and_then}
 use Rattle.trace.specs.Touches.{judged}
 use Rattle.sheet.specs.declared.row.Row.{Row}
@@ -40,7 +40,7 @@ room l = min (min (min l.keys l.slots) l.next) l.serving
 
 -- the touches of a text that the lists have places for; the held-key list has a place for each of 64 frames
 abbrev pub touches_for : List ℕ → Lent → Result (List ℕ) ReplayFault
-touches_for text l = and_then (judged text (room l)) (λ touches. cond (nat_le 64 l.held) (Ok touches) (Err (replay-fault.Refused refusal.TooFewPlaces)))
+touches_for text l = and_then (judged text (room l)) (λ touches. cond (nat_le 64 l.held) (Ok touches) (Err (replay_fault.Refused refusal.TooFewPlaces)))
 
 -- the sheet: a row for each number of frames, or the fault
 abbrev pub sheet_of : List ℕ → Lent → Result (List Row) ReplayFault

@@ -6,7 +6,7 @@ use anyhow::anyhow;
 use base::VolumeKey;
 use index::Slot;
 use planning::forecast_touches;
-use policy::{Clock, Fifo, Lru, Policy};
+use policy::{Clock, Fifo, Lru};
 use sheet::{Row, sheet_of_trace};
 use std::alloc::{AllocError, Global};
 use std::io::Read;

@@ -8,7 +8,7 @@ use Rattle.trace.specs.declared.access.Access.{Access}
 use Rattle.trace.specs.declared.access.Opcode.{Opcode}
 use Rattle.trace.specs.declared.access.Opcode.TheVariants.{Read, Write}
 use Rattle.trace.specs.declared.fault.LineFault.{LineFault}
-use Rattle.trace.specs.declared.fault.LineFault.TheVariants as line-fault
+use Rattle.trace.specs.declared.fault.LineFault.TheVariants as line_fault
 use Rattle.trace.specs.Splits.{parts, lines, Lacks}
 use Rattle.trace.specs.Numerals.{digit, all_digits, numeral}
 use Rattle.trace.specs.Accesses.{opcode_of, time_stamp, access_in, in_line, access_of, sectors_in}
@@ -79,7 +79,7 @@ module _ {bs ts : List ℕ} (h : Line bs ts) where
   line_accepted : (n : ℕ) → access_of n bs ≡ Ok line_access
   line_accepted n =
       let F : List (List ℕ) → Result Access LineFault =
-      λ fs. cond (eqb (length fs) 5) (in_line (access_in n (get_or fs 0 []) (get_or fs 1 []) (get_or fs 2 []) (get_or fs 3 []) (get_or fs 4 []))) (Err (line-fault.FieldCount n)) in
+      λ fs. cond (eqb (length fs) 5) (in_line (access_in n (get_or fs 0 []) (get_or fs 1 []) (get_or fs 2 []) (get_or fs 3 []) (get_or fs 4 []))) (Err (line_fault.FieldCount n)) in
       let low : h.first ≤ 4294967295 = omega (arith, h.some, h.last) in
       let reach : h.first + h.sectors - 1 ≤ 4294967295 = omega (arith, h.last) in
       ap F line_fields

@@ -3,7 +3,7 @@ use Rattle.std.proofs.Common.{◌≡◌, ℕ, ◌+◌, ◌<◌, ◌≤◌, leb, 
 use Rattle.std.proofs.lemmas.Bool.{le-leb, lt-leb, leb-true}
 use Rattle.trace.specs.declared.access.Access.{Access}
 use Rattle.trace.specs.declared.fault.LineFault.{LineFault}
-use Rattle.trace.specs.declared.fault.LineFault.TheVariants as line-fault
+use Rattle.trace.specs.declared.fault.LineFault.TheVariants as line_fault
 use Rattle.trace.specs.Accesses.{and_then, access_of}
 use Rattle.trace.specs.Touches.{touches, so_far, judged_lines, counted}
 use Rattle.trace.proofs.Accepted.{ok_same, then_parts, cond_parts}
@@ -29,7 +29,7 @@ module _ (n t : ℕ) (l : List ℕ) (ls : List (List ℕ)) where
   pub judged_more : (a : Access) → access_of n l ≡ Ok a → t + a.sectors ≤ 4096 → added t (judged_lines n t (l ∷ ls)) ≡ added (t + a.sectors) (judged_lines (n + 1) (t + a.sectors) ls)
   judged_more a e h = rw (e, le-leb (t + a.sectors) 4096 h) (added_front t a.sectors (touches a) (judged_lines (n + 1) (t + a.sectors) ls) (length-touches a))
 
-  pub judged_many : (a : Access) → access_of n l ≡ Ok a → 4096 < t + a.sectors → added t (judged_lines n t (l ∷ ls)) ≡ Err (line-fault.TooManyTouches n)
+  pub judged_many : (a : Access) → access_of n l ≡ Ok a → 4096 < t + a.sectors → added t (judged_lines n t (l ∷ ls)) ≡ Err (line_fault.TooManyTouches n)
   judged_many a e h = rw (e, lt-leb (t + a.sectors) 4096 h)
 
   pub judged_stop : (f : LineFault) → access_of n l ≡ Err f → added t (judged_lines n t (l ∷ ls)) ≡ Err f
@@ -41,7 +41,7 @@ module _ (n t : ℕ) (l : List ℕ) (ls : List (List ℕ)) where
       let p = then_parts (access_of n l) _ ts h in
       let a = p.0 in
       let q = then_parts (so_far n (t + a.sectors)) _ ts p.2 in
-      let few = cond_parts (leb (t + a.sectors) 4096) (t + a.sectors) q.0 (line-fault.TooManyTouches n) q.1 in
+      let few = cond_parts (leb (t + a.sectors) 4096) (t + a.sectors) q.0 (line_fault.TooManyTouches n) q.1 in
       let r = then_parts (judged_lines (n + 1) q.0 ls) _ ts q.2 in
       (a, p.1, leb-true _ _ few.0, (r.0, ap (λ s. judged_lines (n + 1) s ls) few.1 ∙ r.1, ok_same r.2))
 

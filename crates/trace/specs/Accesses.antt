@@ -11,7 +11,7 @@ use Rattle.trace.specs.declared.fault.Field.{Field}
 use Rattle.trace.specs.declared.fault.Field.TheVariants as field
 use Rattle.trace.specs.declared.fault.FieldFault.{FieldFault}
 use Rattle.trace.specs.declared.fault.LineFault.{LineFault}
-use Rattle.trace.specs.declared.fault.LineFault.TheVariants as line-fault
+use Rattle.trace.specs.declared.fault.LineFault.TheVariants as line_fault
 use Rattle.trace.specs.Splits.{comma, point, parts}
 use Rattle.trace.specs.Numerals.{numeral}
 
@@ -86,7 +86,7 @@ access_in n asu lba size opcode stamp =
 -- a field's fault is carried inside its line's
 abbrev pub in_line : {T : Type 0} → Result T FieldFault → Result T LineFault
 in_line (Ok x) = Ok x
-in_line (Err e) = Err (line-fault.Field e)
+in_line (Err e) = Err (line_fault.Field e)
 
 -- the fields stand between commas
 abbrev pub fields : List ℕ → List (List ℕ)
@@ -99,4 +99,4 @@ access_of n bs =
     (in_line (access_in n
     (slice_index_or (fields bs) 0 []) (slice_index_or (fields bs) 1 []) (slice_index_or (fields bs) 2 [])
     (slice_index_or (fields bs) 3 []) (slice_index_or (fields bs) 4 [])))
-    (Err (line-fault.FieldCount n))
+    (Err (line_fault.FieldCount n))

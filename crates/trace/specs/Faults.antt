@@ -6,9 +6,9 @@ use Rattle.trace.specs.declared.fault.Field.{Field}
 use Rattle.trace.specs.declared.fault.Field.TheVariants as field
 use Rattle.trace.specs.declared.fault.FieldFault.{FieldFault}
 use Rattle.trace.specs.declared.fault.LineFault.{LineFault}
-use Rattle.trace.specs.declared.fault.LineFault.TheVariants as line-fault
+use Rattle.trace.specs.declared.fault.LineFault.TheVariants as line_fault
 use Rattle.trace.specs.declared.fault.ReplayFault.{ReplayFault}
-use Rattle.trace.specs.declared.fault.ReplayFault.TheVariants as replay-fault
+use Rattle.trace.specs.declared.fault.ReplayFault.TheVariants as replay_fault
 use Rattle.trace.specs.declared.fault.Report.{Report}
 
 -- fields count from 1
@@ -25,11 +25,11 @@ field_report f = record { number = number f.refusal; line = f.line; field = fiel
 
 -- a fault of the whole line has field 0
 abbrev pub line_report : LineFault → Report
-line_report (line-fault.Field f) = field_report f
-line_report (line-fault.FieldCount line) = record { number = number refusal.FieldCount; line = line; field = 0 }
-line_report (line-fault.TooManyTouches line) = record { number = number refusal.TooManyTouches; line = line; field = 0 }
+line_report (line_fault.Field f) = field_report f
+line_report (line_fault.FieldCount line) = record { number = number refusal.FieldCount; line = line; field = 0 }
+line_report (line_fault.TooManyTouches line) = record { number = number refusal.TooManyTouches; line = line; field = 0 }
 
 -- a fault that no line is to blame for has line 0 and field 0
 abbrev pub reported : ReplayFault → Report
-reported (replay-fault.Line f) = line_report f
-reported (replay-fault.Refused r) = record { number = number r; line = 0; field = 0 }
+reported (replay_fault.Line f) = line_report f
+reported (replay_fault.Refused r) = record { number = number r; line = 0; field = 0 }

@@ -5,9 +5,9 @@ use Rattle.base.specs.declared.key.volume.VolumeKey.{VolumeKey}
 use Rattle.base.specs.declared.refusal.Refusal.TheVariants as refusal
 use Rattle.trace.specs.declared.access.Access.{Access}
 use Rattle.trace.specs.declared.fault.LineFault.{LineFault}
-use Rattle.trace.specs.declared.fault.LineFault.TheVariants as line-fault
+use Rattle.trace.specs.declared.fault.LineFault.TheVariants as line_fault
 use Rattle.trace.specs.declared.fault.ReplayFault.{ReplayFault}
-use Rattle.trace.specs.declared.fault.ReplayFault.TheVariants as replay-fault
+use Rattle.trace.specs.declared.fault.ReplayFault.TheVariants as replay_fault
 use Rattle.trace.specs.Splits.{lines}
 use Rattle.trace.specs.Accesses.{and_then, access_of}
 
@@ -22,7 +22,7 @@ touches a = upward a.asu a.lba a.sectors
 
 -- the touches up to and with line n, unless they exceed 4,096
 abbrev pub so_far : ℕ → ℕ → Result ℕ LineFault
-so_far n t = cond (nat_le t 4096) (Ok t) (Err (line-fault.TooManyTouches n))
+so_far n t = cond (nat_le t 4096) (Ok t) (Err (line_fault.TooManyTouches n))
 
 -- the touches of lines, the first of which is line n, with t touches before it
 abbrev pub judged_lines : ℕ → ℕ → List (List ℕ) → Result (List ℕ) LineFault
@@ -36,18 +36,18 @@ judged_lines n t (l ∷ ls) =
 -- a line's fault is carried inside the replay's
 abbrev pub in_replay : {T : Type 0} → Result T LineFault → Result T ReplayFault
 in_replay (Ok x) = Ok x
-in_replay (Err e) = Err (replay-fault.Line e)
+in_replay (Err e) = Err (replay_fault.Line e)
 
 -- the touches fit a list of so many places
 abbrev pub placed : ℕ → List ℕ → Result (List ℕ) ReplayFault
-placed places ts = cond (nat_le (length ts) places) (Ok ts) (Err (replay-fault.Refused refusal.TooFewPlaces))
+placed places ts = cond (nat_le (length ts) places) (Ok ts) (Err (replay_fault.Refused refusal.TooFewPlaces))
 
 -- the touches of a text for a list of so many places: first its length is judged, then its lines, then the places
 abbrev pub judged : List ℕ → ℕ → Result (List ℕ) ReplayFault
 judged text places =
     cond (nat_le (length text) 32768)
     (and_then (in_replay (judged_lines 1 0 (lines text))) (placed places))
-    (Err (replay-fault.Refused refusal.TraceTooLong))
+    (Err (replay_fault.Refused refusal.TraceTooLong))
 
 -- how many touches were accepted
 abbrev pub counted : {E : Type 0} → Result (List ℕ) E → Result ℕ E

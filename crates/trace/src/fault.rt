@@ -1,8 +1,8 @@
 // Why a trace is refused: a field's fault stands whole inside its line's, and that inside the replay's.
 // The line is put in where the fault is found, so `?` alone carries it on.
 ghost use Rattle.std.specs.Prelude.{◌≡◌};
-ghost use Rattle.trace.specs.declared.fault.LineFault.TheVariants as line-fault;
-ghost use Rattle.trace.specs.declared.fault.ReplayFault.TheVariants as replay-fault;
+ghost use Rattle.trace.specs.declared.fault.LineFault.TheVariants as line_fault;
+ghost use Rattle.trace.specs.declared.fault.ReplayFault.TheVariants as replay_fault;
 
 use base::Refusal;
 
@@ -50,7 +50,7 @@ pub struct Report {
 }
 
 impl From<FieldFault> for LineFault {
-    ghost from_gives = { λ fault r. r ≡ line-fault.Field fault };
+    ghost from_gives = { λ fault r. r ≡ line_fault.Field fault };
 
     fn from(fault: FieldFault) -> LineFault {
         LineFault::Field(fault)
@@ -58,7 +58,7 @@ impl From<FieldFault> for LineFault {
 }
 
 impl From<LineFault> for ReplayFault {
-    ghost from_gives = { λ fault r. r ≡ replay-fault.Line fault };
+    ghost from_gives = { λ fault r. r ≡ replay_fault.Line fault };
 
     fn from(fault: LineFault) -> ReplayFault {
         ReplayFault::Line(fault)
@@ -66,7 +66,7 @@ impl From<LineFault> for ReplayFault {
 }
 
 impl From<Refusal> for ReplayFault {
-    ghost from_gives = { λ refusal r. r ≡ replay-fault.Refused refusal };
+    ghost from_gives = { λ refusal r. r ≡ replay_fault.Refused refusal };
 
     fn from(refusal: Refusal) -> ReplayFault {
         ReplayFault::Refused(refusal)

@@ -1,6 +1,6 @@
 // A plain sector: its code is its number.
 ghost use Rattle.base.specs.Keys.{mixed};
-ghost use Rattle.std.proofs.Common.{rules};
+ghost use Rattle.std.proofs.Common.{ap};
 
 use super::Key;
 use crate::mix::mix64;
@@ -15,11 +15,11 @@ impl Key for Sector {
 
     ghost spread = { λ s. mixed s.number };
 
-    ghost faithful = { Prim.search rules };
+    ghost faithful = { λ a b e i. record { number = e i } };
 
-    ghost coded = { Prim.search rules };
+    ghost coded = { λ a b. ap (λ s. s.number) };
 
-    ghost together = { Prim.search rules };
+    ghost together = { λ a b. ap (λ s. mixed s.number) };
 
     fn code(&self) -> u64 {
         self.number as u64

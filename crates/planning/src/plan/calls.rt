@@ -3,7 +3,7 @@ ghost use Rattle.std.specs.Prelude.{◌≡◌, ℕ, ◌<◌, ◌≤◌, true, fa
 ghost use Rattle.planning.specs.Bounds.{Optimal, ServingsAreSchedules};
 ghost use Rattle.planning.specs.Chosen.{NextTouch};
 ghost use Rattle.planning.specs.Minimum.{min_serves, min_fetches};
-ghost use Rattle.planning.specs.Plan.{Places, ceiling as ceiling-at, planned, plan_answer};
+ghost use Rattle.planning.specs.Plan.{Places, ceiling as ceiling_at, planned, plan_answer};
 
 use super::Plan;
 use crate::minimum::serve_touches;
@@ -15,7 +15,7 @@ use index::{Index, Slot};
 // The ceiling on the fetches of so many frames, from the fetches of a schedule on a smaller number of frames. It is computed in 128
 // bits, in which nothing wraps.
 pub fn ceiling(frames: u64, smaller: u64, fetches: u64) -> u128
-    ensures { result ≡ ceiling-at frames smaller fetches }
+    ensures { result ≡ ceiling_at frames smaller fetches }
 {
     let width = u128::from(frames.saturating_sub(smaller)) + 1;
     u128::from(frames) * u128::from(fetches) / width + u128::from(frames)
