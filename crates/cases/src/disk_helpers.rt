@@ -1,27 +1,25 @@
 // Calls of a disk of any kind, with buffers of one byte throughout.
-use crate::helpers::number_of;
+use crate::helpers::{check, check_eq, number_of};
 use disk::Disk;
 use std::alloc::Global;
-use std::process::Abort;
 use std::test::Fail;
 
 // What a buffer holds before a read.
 pub const BLANK: u8 = 0xee;
 
 // The byte that a list has in every place.
-pub fn only_byte(rt: &impl Abort, bytes: &[u8]) -> Result<u8, Fail> {
+pub fn only_byte(bytes: &[u8]) -> Result<u8, Fail> {
     let Some(first) = bytes.first() else {
         return Err(Fail::new("no bytes"));
     };
     for byte in bytes {
-        assert_eq!(rt; *byte, *first);
+        check_eq(*byte, *first)?;
     }
     Ok(*first)
 }
 
 // The number of the refusal, 0 for none, and the buffer's byte after a read.
 pub fn read_of<D: Disk>(
-    rt: &impl Abort,
     heap: Global,
     disk: &mut D,
     sector: u32,
@@ -32,7 +30,7 @@ pub fn read_of<D: Disk>(
 {
     let mut buffer = vec![in heap; BLANK; len]?;
     let number = number_of(disk.read(sector, &mut buffer));
-    let byte = only_byte(rt, &buffer)?;
+    let byte = only_byte(&buffer)?;
     Ok((number, byte))
 }
 
@@ -69,9 +67,9 @@ pub fn image_of(heap: Global, len: usize) -> Result<Vec<u8>, Fail> {
 }
 
 // What an image has in a sector, or in the part of it that there is.
-pub fn byte_in(rt: &impl Abort, image: &[u8], sector: usize) -> Result<u8, Fail> {
-    assert!(rt; sector < 8);
+pub fn byte_in(image: &[u8], sector: usize) -> Result<u8, Fail> {
+    check(sector < 8)?;
     let from = sector * 512;
-    assert!(rt; from < image.len());
-    only_byte(rt, &image[from..image.len().min(from + 512)])
+    check(from < image.len())?;
+    only_byte(&image[from..image.len().min(from + 512)])
 }

@@ -1,10 +1,34 @@
 // What several groups of tests use.
+ghost use Rattle.std.specs.Prelude.{IsTrue, OnOk};
+
 use base::{Geometry, Key, Refusal, Sector};
 use index::Slot;
 use planning::replay_keys;
 use policy::{Clock, Fifo, Lru, Policy};
 use std::alloc::{AllocError, Global};
+use std::fmt::Debug;
 use std::test::Fail;
+
+// An error where a condition does not hold. What a test calls uses this and the next, and only the test itself ends the run: a function that may
+// end the run owes none of what its contract promises.
+pub fn check(holds: bool) -> Result<(), Fail>
+    ensures { OnOk result (IsTrue holds) }
+{
+    if holds {
+        Ok(())
+    } else {
+        Err(Fail::new("a condition does not hold"))
+    }
+}
+
+// An error where two values differ.
+pub fn check_eq<T: PartialEq + Debug + Drop>(found: T, expected: T) -> Result<(), Fail> {
+    if found == expected {
+        Ok(())
+    } else {
+        Err(Fail::new(format_args!("{found:?}, and not {expected:?}")))
+    }
+}
 
 // The number of a refusal, or 0 where nothing is refused.
 pub fn number_of(answer: Result<(), Refusal>) -> u8 {

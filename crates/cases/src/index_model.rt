@@ -1,10 +1,9 @@
 // The index compared with a plain list, over many calls in a haphazard order.
 ghost use Rattle.index.specs.Slots.{Sound};
 
-use crate::helpers::number_of;
+use crate::helpers::{check, check_eq, number_of};
 use base::{Key, Sector, VolumeKey};
 use index::{Index, Slot};
-use std::process::Abort;
 use std::test::Fail;
 
 const SLOTS: usize = 64;
@@ -40,7 +39,6 @@ fn count(model: &[Option<u32>]) -> usize {
 
 // Puts a key into both or takes it out of both; answers whether the index refuses it.
 fn change<K: Key>(
-    rt: &impl Abort,
     index: &mut Index<'_, K>,
     held: &mut Option<u32>,
     key: K,
@@ -53,21 +51,20 @@ fn change<K: Key>(
     let before = *held;
     let Some(number) = stored else {
         *held = None;
-        assert_eq!(rt; index.remove(&key), before);
+        check_eq(index.remove(&key), before)?;
         return Ok(false);
     };
     if has_room || before.is_some() {
         *held = stored;
-        assert_eq!(rt; number_of(index.put(key, number)), 0);
+        check_eq(number_of(index.put(key, number)), 0)?;
         return Ok(false);
     }
-    assert_eq!(rt; number_of(index.put(key, number)), 20);
+    check_eq(number_of(index.put(key, number)), 20)?;
     Ok(true)
 }
 
 // One call on both; answers whether the index refuses it.
 fn compare<K: Key>(
-    rt: &impl Abort,
     index: &mut Index<'_, K>,
     model: &mut [Option<u32>],
     keys: &[K],
@@ -78,7 +75,7 @@ fn compare<K: Key>(
     ensures { Sound K.Key.code K.Key.spread index.new }
 {
     let place = (random >> 33) as usize % KEYS;
-    assert!(rt; place < model.len() && place < keys.len());
+    check(place < model.len() && place < keys.len())?;
     let key = keys[place];
     let has_room = count(model) < SLOTS;
     let stored = if (random >> 60) % 4 == 0 {
@@ -87,17 +84,16 @@ fn compare<K: Key>(
         Some(number)
     };
     let mut held = model[place];
-    assert_eq!(rt; index.find(&key), held);
-    let refused = change(rt, index, &mut held, key, stored, has_room)?;
-    assert_eq!(rt; index.find(&key), held);
+    check_eq(index.find(&key), held)?;
+    let refused = change(index, &mut held, key, stored, has_room)?;
+    check_eq(index.find(&key), held)?;
     model[place] = held;
-    assert_eq!(rt; index.len(), count(model));
+    check_eq(index.len(), count(model))?;
     Ok(refused)
 }
 
 // Two thousand calls; answers how many of them the index refuses.
 fn count_refused<K: Key>(
-    rt: &impl Abort,
     slots: &mut [Slot<K>],
     model: &mut [Option<u32>],
     keys: &[K],
@@ -106,7 +102,7 @@ fn count_refused<K: Key>(
     let mut random = Random { state: 1 };
     let mut refused: u32 = 0;
     for number in 0..2000 {
-        if compare(rt, &mut index, model, keys, random.next(), number)? {
+        if compare(&mut index, model, keys, random.next(), number)? {
             refused = refused.saturating_add(1);
         }
     }
@@ -122,7 +118,7 @@ fn sectors_agree_with_a_list(rt: HostRuntime) -> Result<(), Fail> {
         })?;
     }
     assert_eq!(rt;
-        count_refused(&rt, &mut [Slot::Free; SLOTS], &mut [None; KEYS], &keys)?,
+        count_refused(&mut [Slot::Free; SLOTS], &mut [None; KEYS], &keys)?,
         168
     );
     Ok(())
@@ -135,7 +131,7 @@ fn volume_keys_agree_with_a_list(rt: HostRuntime) -> Result<(), Fail> {
         keys.push(VolumeKey::new((number % 3) as u8, (number / 3) as u32))?;
     }
     assert_eq!(rt;
-        count_refused(&rt, &mut [Slot::Free; SLOTS], &mut [None; KEYS], &keys)?,
+        count_refused(&mut [Slot::Free; SLOTS], &mut [None; KEYS], &keys)?,
         168
     );
     Ok(())

@@ -5,7 +5,6 @@ use base::{Key, Sector, VolumeKey};
 use index::Slot;
 use planning::{ceiling, forecast_touches, plan_touches};
 use policy::{Clock, Fifo, Lru, Policy};
-use std::process::Abort;
 use std::test::Fail;
 use trace::read_trace;
 
@@ -154,14 +153,13 @@ const ROWS: [(usize, [u64; 3], u64); 6] = [
 ];
 
 fn check_rows(
-    rt: &impl Abort,
     keys: &[VolumeKey],
     slots: &mut [Slot<VolumeKey>],
     serving: &mut [u8],
 ) -> Result<(), Fail> {
     for (frames, counts, fewest) in &ROWS {
-        assert_eq!(rt; counts_of(*frames, keys, slots)?, *counts);
-        assert_eq!(rt; fewest_of(keys, *frames, slots, serving)?, *fewest);
+        check_eq(counts_of(*frames, keys, slots)?, *counts)?;
+        check_eq(fewest_of(keys, *frames, slots, serving)?, *fewest)?;
     }
     Ok(())
 }
@@ -170,5 +168,5 @@ fn check_rows(
 fn traces_have_their_counts(rt: HostRuntime) -> Result<(), Fail> {
     let mut keys = [VolumeKey::new(9, 9); 12];
     assert!(rt; read_trace(TEXT.as_bytes(), &mut keys).is_ok());
-    check_rows(&rt, &keys, &mut [Slot::Free; 12], &mut [0; 12])
+    check_rows(&keys, &mut [Slot::Free; 12], &mut [0; 12])
 }

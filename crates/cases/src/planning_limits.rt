@@ -6,7 +6,6 @@ use index::Slot;
 use planning::{plan_touches, replay_keys};
 use policy::Lru;
 use std::alloc::Global;
-use std::process::Abort;
 use std::test::Fail;
 
 // What every place of a list has before a call.
@@ -86,10 +85,10 @@ fn judge_plan(heap: Global, keys: &[Sector], case: &Case) -> Result<(u8, bool), 
 }
 
 // An accepted plan uses its lists.
-fn check_plans(rt: &impl Abort, heap: Global, keys: &[Sector], cases: &[Case]) -> Result<(), Fail> {
+fn check_plans(heap: Global, keys: &[Sector], cases: &[Case]) -> Result<(), Fail> {
     for case in cases {
         let expected = (case.3, case.3 != 0);
-        assert_eq!(rt; judge_plan(heap, keys, case)?, expected);
+        check_eq(judge_plan(heap, keys, case)?, expected)?;
     }
     Ok(())
 }
@@ -113,7 +112,7 @@ const SHORT_LIST: [Case; 13] = [
 #[test]
 fn plans_are_judged(rt: HostRuntime) -> Result<(), Fail> {
     let keys = sectors_of(rt.alloc(), &anomaly_touches())?;
-    check_plans(&rt, rt.alloc(), &keys, &SHORT_LIST)
+    check_plans(rt.alloc(), &keys, &SHORT_LIST)
 }
 
 const LONGEST_LIST: [Case; 2] = [
@@ -139,14 +138,13 @@ fn different_keys(heap: Global, count: u32) -> Result<Vec<Sector>, Fail> {
 #[test]
 fn plans_have_a_longest_list(rt: HostRuntime) -> Result<(), Fail> {
     let longest = different_keys(rt.alloc(), 4096)?;
-    check_plans(&rt, rt.alloc(), &longest, &LONGEST_LIST)?;
+    check_plans(rt.alloc(), &longest, &LONGEST_LIST)?;
     let longer = different_keys(rt.alloc(), 4097)?;
-    check_plans(&rt, rt.alloc(), &longer, &LONGER_LIST)
+    check_plans(rt.alloc(), &longer, &LONGER_LIST)
 }
 
 // A replay on three frames with so many slots and places for held keys.
 fn check_replay(
-    rt: &impl Abort,
     heap: Global,
     keys: &[Sector],
     slots: usize,
@@ -157,22 +155,21 @@ fn check_replay(
     let mut slots = fill_slots(heap, slots)?;
     let mut held = vec![in heap; u32::from(FILL); held]?;
     let answer = replay_keys::<Lru, Sector>((), &geometry, keys, &mut slots, &mut held);
-    assert_eq!(rt; number_in(answer), refusal);
-    assert_eq!(rt; has_fill_slots(&slots) && has_fill(&held), refusal != 0);
-    Ok(())
+    check_eq(number_in(answer), refusal)?;
+    check_eq(has_fill_slots(&slots) && has_fill(&held), refusal != 0)
 }
 
 #[test]
 fn replays_are_judged(rt: HostRuntime) -> Result<(), Fail> {
     let heap = rt.alloc();
     let keys = sectors_of(heap, &anomaly_touches())?;
-    check_replay(&rt, heap, &keys, 12, 3, 0)?;
-    check_replay(&rt, heap, &keys, 11, 3, 18)?;
-    check_replay(&rt, heap, &keys, 12, 2, 18)?;
+    check_replay(heap, &keys, 12, 3, 0)?;
+    check_replay(heap, &keys, 11, 3, 18)?;
+    check_replay(heap, &keys, 12, 2, 18)?;
     let longest = different_keys(heap, 4096)?;
-    check_replay(&rt, heap, &longest, 4096, 3, 0)?;
-    check_replay(&rt, heap, &longest, 4095, 3, 18)?;
+    check_replay(heap, &longest, 4096, 3, 0)?;
+    check_replay(heap, &longest, 4095, 3, 18)?;
     let longer = different_keys(heap, 4097)?;
-    check_replay(&rt, heap, &longer, 4097, 3, 17)?;
-    check_replay(&rt, heap, &longer, 0, 0, 17)
+    check_replay(heap, &longer, 4097, 3, 17)?;
+    check_replay(heap, &longer, 0, 0, 17)
 }

@@ -4,47 +4,46 @@ use crate::helpers::*;
 use base::Sector;
 use index::Slot;
 use policy::{Clock, Fifo, Lru, Policy};
-use std::process::Abort;
 use std::test::Fail;
 
 // Uses before and after the two places of a policy with two frames.
-fn check_uses<P: Policy>(rt: &impl Abort, policy: &mut P) {
-    assert_eq!(rt; number_of(policy.use_frame(0)), 8);
-    assert_eq!(rt; policy.place(), 0);
-    assert_eq!(rt; number_of(policy.use_frame(0)), 0);
-    assert_eq!(rt; number_of(policy.use_frame(1)), 8);
-    assert_eq!(rt; policy.place(), 1);
-    assert_eq!(rt; number_of(policy.use_frame(1)), 0);
-    assert_eq!(rt; number_of(policy.use_frame(2)), 8);
+fn check_uses<P: Policy>(policy: &mut P) -> Result<(), Fail> {
+    check_eq(number_of(policy.use_frame(0)), 8)?;
+    check_eq(policy.place(), 0)?;
+    check_eq(number_of(policy.use_frame(0)), 0)?;
+    check_eq(number_of(policy.use_frame(1)), 8)?;
+    check_eq(policy.place(), 1)?;
+    check_eq(number_of(policy.use_frame(1)), 0)?;
+    check_eq(number_of(policy.use_frame(2)), 8)
 }
 
 #[test]
 fn use_needs_a_filled_frame(rt: HostRuntime) -> Result<(), Fail> {
     let geometry = geometry_of(2)?;
-    check_uses(&rt, &mut Lru::new((), &geometry));
-    check_uses(&rt, &mut Fifo::new((), &geometry));
-    check_uses(&rt, &mut Clock::new((), &geometry));
+    check_uses(&mut Lru::new((), &geometry))?;
+    check_uses(&mut Fifo::new((), &geometry))?;
+    check_uses(&mut Clock::new((), &geometry))?;
     Ok(())
 }
 
 // The frames of a full policy's next three places, with a use before the first and one before the second.
-fn check_places<P: Policy>(rt: &impl Abort, policy: &mut P, expected: [usize; 3]) {
+fn check_places<P: Policy>(policy: &mut P, expected: [usize; 3]) -> Result<(), Fail> {
     for frame in 0..3 {
-        assert_eq!(rt; policy.place(), frame);
+        check_eq(policy.place(), frame)?;
     }
-    assert_eq!(rt; number_of(policy.use_frame(0)), 0);
+    check_eq(number_of(policy.use_frame(0)), 0)?;
     let first = policy.place();
-    assert_eq!(rt; number_of(policy.use_frame(1)), 0);
+    check_eq(number_of(policy.use_frame(1)), 0)?;
     let second = policy.place();
-    assert_eq!(rt; [first, second, policy.place()], expected);
+    check_eq([first, second, policy.place()], expected)
 }
 
 #[test]
 fn full_places_follow_the_rules(rt: HostRuntime) -> Result<(), Fail> {
     let geometry = geometry_of(3)?;
-    check_places(&rt, &mut Lru::new((), &geometry), [1, 2, 0]);
-    check_places(&rt, &mut Fifo::new((), &geometry), [0, 1, 2]);
-    check_places(&rt, &mut Clock::new((), &geometry), [0, 2, 1]);
+    check_places(&mut Lru::new((), &geometry), [1, 2, 0])?;
+    check_places(&mut Fifo::new((), &geometry), [0, 1, 2])?;
+    check_places(&mut Clock::new((), &geometry), [0, 2, 1])?;
     Ok(())
 }
 

@@ -1,6 +1,7 @@
 // Texts that the trace reader accepts or refuses, each with its answer.
+use crate::helpers::check_eq;
 use base::VolumeKey;
-use std::process::Abort;
+use std::test::Fail;
 use trace::read_trace;
 
 // The number, line and field of a refusal.
@@ -93,10 +94,11 @@ const ENDINGS: [(&str, Report); 10] = [
     ("0,7,512,R,0\r0,7,512,R,0\n", (10, 1, 0)),
 ];
 
-fn check_refused(rt: &impl Abort, cases: &[(&str, Report)]) {
+fn check_refused(cases: &[(&str, Report)]) -> Result<(), Fail> {
     for (text, report) in cases {
-        assert_eq!(rt; judge(*text), (*report, 0), "{}", *text);
+        check_eq((*text, judge(*text)), (*text, (*report, 0)))?;
     }
+    Ok(())
 }
 
 #[test]
@@ -107,9 +109,9 @@ fn accepts(rt: HostRuntime) {
 }
 
 #[test]
-fn refuses(rt: HostRuntime) {
-    check_refused(&rt, &NUMBERS);
-    check_refused(&rt, &WORDS);
-    check_refused(&rt, &ORDER);
-    check_refused(&rt, &ENDINGS);
+fn refuses() -> Result<(), Fail> {
+    check_refused(&NUMBERS)?;
+    check_refused(&WORDS)?;
+    check_refused(&ORDER)?;
+    check_refused(&ENDINGS)
 }

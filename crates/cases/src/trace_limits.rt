@@ -1,7 +1,7 @@
 // Traces at their limits, and what the list of keys is afterwards.
+use crate::helpers::check_eq;
 use base::VolumeKey;
 use std::alloc::{AllocError, Global};
-use std::process::Abort;
 use std::test::Fail;
 use trace::read_trace;
 
@@ -58,16 +58,16 @@ fn touches_have_a_limit(rt: HostRuntime) -> Result<(), Fail> {
 }
 
 // The units and sector numbers that a list of keys has.
-fn check_after(rt: &impl Abort, keys: &[VolumeKey], after: &[(u8, u32)]) {
-    assert_eq!(rt; keys.len(), after.len());
+fn check_after(keys: &[VolumeKey], after: &[(u8, u32)]) -> Result<(), Fail> {
+    check_eq(keys.len(), after.len())?;
     for (key, expected) in keys.iter().zip(after.iter()) {
-        assert_eq!(rt; (key.asu(), key.lba()), *expected);
+        check_eq((key.asu(), key.lba()), *expected)?;
     }
+    Ok(())
 }
 
 // What reading a text into a list of so many places answers, and the list afterwards.
 fn check_keys(
-    rt: &impl Abort,
     heap: Global,
     places: usize,
     text: &str,
@@ -75,8 +75,8 @@ fn check_keys(
     after: &[(u8, u32)],
 ) -> Result<(), Fail> {
     let mut keys = vec![in heap; VolumeKey::new(9, 9); places]?;
-    assert_eq!(rt; judge(text.as_bytes(), &mut keys), answer);
-    check_after(rt, &keys, after);
+    check_eq(judge(text.as_bytes(), &mut keys), answer)?;
+    check_after(&keys, after)?;
     Ok(())
 }
 
@@ -85,11 +85,11 @@ fn keys_are_written_once_all_is_judged(rt: HostRuntime) -> Result<(), Fail> {
     let heap = rt.alloc();
     let text = "3,4294967294,1024,R,0\n5,7,512,W,0\n";
     let written = [(3, 4294967294), (3, 4294967295), (5, 7), (9, 9), (9, 9)];
-    check_keys(&rt, heap, 5, text, Ok(3), &written)?;
-    check_keys(&rt, heap, 3, text, Ok(3), &written[0..3])?;
+    check_keys(heap, 5, text, Ok(3), &written)?;
+    check_keys(heap, 3, text, Ok(3), &written[0..3])?;
     let unchanged = [(9, 9); 5];
-    check_keys(&rt, heap, 2, text, Err((18, 0, 0)), &unchanged[0..2])?;
+    check_keys(heap, 2, text, Err((18, 0, 0)), &unchanged[0..2])?;
     let faulty = "3,1,512,R,0\n3,x,512,R,0\n";
-    check_keys(&rt, heap, 5, faulty, Err((11, 2, 2)), &unchanged)?;
-    check_keys(&rt, heap, 0, "", Ok(0), &[])
+    check_keys(heap, 5, faulty, Err((11, 2, 2)), &unchanged)?;
+    check_keys(heap, 0, "", Ok(0), &[])
 }

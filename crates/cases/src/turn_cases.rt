@@ -1,9 +1,8 @@
 // Turns of several tasks, served one after another.
 use crate::disk_helpers::*;
-use crate::helpers::number_of;
+use crate::helpers::{check_eq, number_of};
 use disk::{ImageDisk, Request, Turn, serve_turns};
 use std::alloc::Global;
-use std::process::Abort;
 use std::test::Fail;
 
 // A turn: its task, request, sector and the bytes of its buffer; and how it ends: the number of the refusal, 0 for
@@ -37,18 +36,14 @@ fn turns_of(heap: Global, cases: &[Case]) -> Result<Vec<Turn>, Fail> {
     Ok(turns)
 }
 
-fn check_turn(rt: &impl Abort, turn: &Turn, case: &Case) -> Result<(), Fail> {
+fn check_turn(turn: &Turn, case: &Case) -> Result<(), Fail> {
     let answer = match turn.answer {
         Some(answer) => number_of(answer),
         None => return Err(Fail::new("no answer")),
     };
     let (task, _, _, len, expected, byte) = *case;
-    assert_eq!(rt; (turn.task, answer), (task, expected));
-    assert_eq!(rt;
-        (turn.buffer.len(), only_byte(rt, &turn.buffer)?),
-        (len, byte)
-    );
-    Ok(())
+    check_eq((turn.task, answer), (task, expected))?;
+    check_eq((turn.buffer.len(), only_byte(&turn.buffer)?), (len, byte))
 }
 
 #[test]
@@ -59,13 +54,13 @@ fn turns_are_served_in_order(rt: HostRuntime) -> Result<(), Fail> {
     let tallies = serve_turns(&mut disk, &mut turns);
     assert_eq!(rt; (tallies.reads, tallies.writes), (2, 2));
     for (turn, case) in turns.iter().zip(CASES.iter()) {
-        check_turn(&rt, turn, case)?;
+        check_turn(turn, case)?;
     }
     assert_eq!(rt;
         [
-            byte_in(&rt, &image, 0)?,
-            byte_in(&rt, &image, 2)?,
-            byte_in(&rt, &image, 3)?,
+            byte_in(&image, 0)?,
+            byte_in(&image, 2)?,
+            byte_in(&image, 3)?,
         ],
         [41, 12, 42]
     );
