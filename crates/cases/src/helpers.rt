@@ -1,5 +1,5 @@
 // What several groups of tests use.
-ghost use Rattle.std.specs.Prelude.{IsTrue, OnOk};
+ghost use Rattle.std.specs.Prelude.{◌↔◌, IsTrue, IsOk};
 
 use base::{Geometry, Key, Refusal, Sector};
 use index::Slot;
@@ -12,7 +12,7 @@ use std::test::Fail;
 // An error where a condition does not hold. What a test calls uses this and the next, and only the test itself ends the run: a function that may
 // end the run owes none of what its contract promises.
 pub fn check(holds: bool) -> Result<(), Fail>
-    ensures { OnOk result (IsTrue holds) }
+    ensures { IsOk result ↔ IsTrue holds }
 {
     if holds {
         Ok(())
@@ -22,7 +22,9 @@ pub fn check(holds: bool) -> Result<(), Fail>
 }
 
 // An error where two values differ.
-pub fn check_eq<T: PartialEq + Debug + Drop>(found: T, expected: T) -> Result<(), Fail> {
+pub fn check_eq<T: PartialEq + Debug + Drop>(found: T, expected: T) -> Result<(), Fail>
+    ensures { IsOk result ↔ IsTrue (T.eq found expected) }
+{
     if found == expected {
         Ok(())
     } else {
