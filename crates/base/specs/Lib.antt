@@ -2,4 +2,5 @@ pub mod Refusals
 pub mod Geometries
 pub mod Keys
 pub mod Lists
+pub mod Rings
 pub mod VolumeCodes

@@ -1,11 +1,13 @@
-// What every layer shares: refusals, the geometry of a cache, and keys.
+// What every layer shares: refusals, the geometry of a cache, keys, and places in a ring.
 #![tactic(auto)]
 
 mod geometry;
 mod key;
 mod mix;
 mod refusal;
+mod ring;
 
 pub use geometry::Geometry;
 pub use key::{Key, Sector, VolumeKey};
 pub use refusal::Refusal;
+pub use ring::next_in_ring;

@@ -4,7 +4,7 @@ ghost use Rattle.std.specs.Prelude.{◌^◌, ◌<◌};
 mod calls;
 
 // The bound says again what the field's type says: by it a proof takes the two parts back out of a code.
-#[derive(Clone, Copy)]
+#[derive(Clone, Copy, PartialEq, Eq, Debug)]
 pub struct VolumeKey {
     asu: u8,
     lba: u32,
