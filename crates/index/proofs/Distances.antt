@@ -1,8 +1,7 @@
 -- How far the keys are from their homes, all together: closing a gap brings keys nearer, so it ends.
-use Rattle.std.proofs.Common.{◌≡◌, ℕ, zero, suc, ◌+◌, ◌-◌, ◌*◌, ◌%◌, ◌<◌, List, [], ◌∷◌, length, get_or, set, mul-le-mul_right, arith, length-set}
+use Rattle.std.proofs.Common.{◌≡◌, ℕ, zero, suc, ◌+◌, ◌-◌, ◌*◌, ◌%◌, ◌<◌, List, [], ◌∷◌, length, get_or, set, Option, Some, None, mul-le-mul_right, arith, length-set}
 use Rattle.std.proofs.lemmas.List.{get_or-set_other}
-use Rattle.index.specs.declared.slot.Slot.{Slot}
-use Rattle.index.specs.declared.slot.Slot.TheVariants.{Free, Taken}
+use Rattle.index.specs.declared.slot.Entry.{Entry}
 use Rattle.index.specs.Places.{steps}
 use Rattle.index.proofs.Places.{steps_below}
 
@@ -22,31 +21,31 @@ sum-from_set f i (x ∷ xs) (suc p) v d h =
 
 module _ {K : Type 0} (spread : K → ℕ) (n : ℕ) where
   -- how far a slot's key is from its home
-  abbrev pub far : ℕ → Slot K → ℕ
-  far p Free = 0
-  far p (Taken k m) = steps n (spread k % n) p
+  abbrev pub far : ℕ → Option (Entry K) → ℕ
+  far p None = 0
+  far p (Some x) = steps n (spread x.key % n) p
 
-  abbrev pub far_all : List (Slot K) → ℕ
+  abbrev pub far_all : List (Option (Entry K)) → ℕ
   far_all xs = sum-from far 0 xs
 
   -- what is left to do, with the gap at hole: keys may come nearer, and a round may go on
-  abbrev pub left : List (Slot K) → ℕ → ℕ → ℕ
+  abbrev pub left : List (Option (Entry K)) → ℕ → ℕ → ℕ
   left xs hole last = far_all xs * n + (n - steps n hole last)
 
-  pub nearer : (xs ys : List (Slot K)) (hole next : ℕ) (k : K) (m : ℕ) → hole < length xs → next < length xs → (next ≡ hole → ⊥) →
-      get_or xs hole Free ≡ Free → get_or xs next Free ≡ Taken k m → ys ≡ set (set xs hole (get_or xs next Free)) next (get_or xs hole Free) →
-      steps n (spread k % n) hole < steps n (spread k % n) next → far_all ys < far_all xs
-  nearer xs ys hole next k m in-hole in_next other free held is on =
-      let zs = set xs hole (Taken k m) in
-      let e : ys ≡ set zs next Free = rw (free, held) at is in
-      let in-zs : next < length zs = rw (length-set xs hole (Taken k m)) in_next in
-      let a = rw free at (sum-from_set far 0 xs hole (Taken k m) Free in-hole) in
-      let b = rw (get_or-set_other xs hole next (Taken k m) Free other, held) at (sum-from_set far 0 zs next Free Free in-zs) in
+  pub nearer : (xs ys : List (Option (Entry K))) (hole next : ℕ) (x : Entry K) → hole < length xs → next < length xs → (next ≡ hole → ⊥) →
+      get_or xs hole None ≡ None → get_or xs next None ≡ Some x → ys ≡ set (set xs hole (get_or xs next None)) next (get_or xs hole None) →
+      steps n (spread x.key % n) hole < steps n (spread x.key % n) next → far_all ys < far_all xs
+  nearer xs ys hole next x in-hole in_next other free held is on =
+      let zs = set xs hole (Some x) in
+      let e : ys ≡ set zs next None = rw (free, held) at is in
+      let in-zs : next < length zs = rw (length-set xs hole (Some x)) in_next in
+      let a = rw free at (sum-from_set far 0 xs hole (Some x) None in-hole) in
+      let b = rw (get_or-set_other xs hole next (Some x) None other, held) at (sum-from_set far 0 zs next None None in-zs) in
       let h : 0 + hole ≡ hole = omega arith in
       let j : 0 + next ≡ next = omega arith in
       rw e (omega (arith, rw h at a, rw j at b))
 
-  pub left_less : (xs ys : List (Slot K)) (hole last next : ℕ) → hole < n → last < n → far_all ys < far_all xs → left ys next next < left xs hole last
+  pub left_less : (xs ys : List (Option (Entry K))) (hole last next : ℕ) → hole < n → last < n → far_all ys < far_all xs → left ys next next < left xs hole last
   left_less xs ys hole last next in-hole in-last less =
       let s = steps_below n hole last in-hole in-last in
       omega (arith, mul-le-mul_right n less)

@@ -1,39 +1,33 @@
 -- The size of an index is the number of codes with a number.
-use Rattle.std.proofs.Common.{◌≡◌, ℕ, ◌≤◌, cond, eqb, List, [], ◌∷◌, length, is_some, count_by, refl, arith}
-use Rattle.std.proofs.lemmas.List.Sums.{sum_by-cons, count_by-le-length}
+use Rattle.std.proofs.Common.{◌≡◌, ℕ, ◌≤◌, cond, eqb, List, [], ◌∷◌, length, Option, is_some, Some, None, count_by, refl, arith}
+use Rattle.std.proofs.lemmas.List.Sums.{count_by-le-length}
 use Rattle.std.proofs.lemmas.Bool.Decides.{nat_tests}
-use Rattle.index.specs.declared.slot.Slot.{Slot}
-use Rattle.index.specs.declared.slot.Slot.TheVariants.{Free, Taken}
+use Rattle.index.specs.declared.slot.Entry.{Entry}
 use Rattle.index.specs.declared.index.Index.{Index}
 use Rattle.index.specs.Maps.{Finite}
-use Rattle.index.specs.Slots.{is_taken, holds, number_of, slots_of, map_of, Sound}
-use Rattle.index.proofs.Counts.{number_only}
+use Rattle.index.specs.Slots.{holds, number_of, slots_of, map_of, Sound}
+use Rattle.index.proofs.Counts.{count_by-cons, number_only}
 
 module _ {K : Type 0} (code : K → ℕ) where
   -- the codes of the taken slots
-  abbrev codes : List (Slot K) → List ℕ
+  abbrev codes : List (Option (Entry K)) → List ℕ
   codes [] = []
-  codes (Free ∷ xs) = codes xs
-  codes (Taken k n ∷ xs) = code k ∷ codes xs
+  codes (None ∷ xs) = codes xs
+  codes (Some x ∷ xs) = code x.key ∷ codes xs
 
-  codes_length : (xs : List (Slot K)) → length (codes xs) ≡ count_by is_taken xs
+  codes_length : (xs : List (Option (Entry K))) → length (codes xs) ≡ count_by is_some xs
   codes_length [] = refl
-  codes_length (Free ∷ xs) =
-      let p = sum_by-cons (λ x. cond (is_taken x) 1 0) Free xs in let r = codes_length xs in omega arith
-  codes_length (Taken k n ∷ xs) =
-      let p = sum_by-cons (λ x. cond (is_taken x) 1 0) (Taken k n) xs in let r = codes_length xs in omega arith
+  codes_length (None ∷ xs) = grind (arith, count_by-cons, codes_length xs)
+  codes_length (Some x ∷ xs) =
+      omega (arith, count_by-cons is_some (Some x) xs, codes_length xs)
 
-  codes_count : (c : ℕ) (xs : List (Slot K)) → count_by (eqb c) (codes xs) ≡ count_by (holds code c) xs
+  codes_count : (c : ℕ) (xs : List (Option (Entry K))) → count_by (eqb c) (codes xs) ≡ count_by (holds code c) xs
   codes_count c [] = refl
-  codes_count c (Free ∷ xs) =
-      let p = sum_by-cons (λ x. cond (holds code c x) 1 0) Free xs in let r = codes_count c xs in omega arith
-  codes_count c (Taken k n ∷ xs) =
-      let p = sum_by-cons (λ x. cond (holds code c x) 1 0) (Taken k n) xs in
-      let q = sum_by-cons (λ x. cond (eqb c x) 1 0) (code k) (codes xs) in
-      let r = codes_count c xs in
-      omega arith
+  codes_count c (None ∷ xs) = grind (arith, count_by-cons, codes_count c xs)
+  codes_count c (Some x ∷ xs) =
+      omega (arith, count_by-cons (holds code c) (Some x) xs, count_by-cons (eqb c) (code x.key) (codes xs), codes_count c xs)
 
-  codes_once : (c : ℕ) (xs : List (Slot K)) → count_by (holds code c) xs ≤ 1 → count_by (eqb c) (codes xs) ≡ cond (is_some (number_of code xs c)) 1 0
+  codes_once : (c : ℕ) (xs : List (Option (Entry K))) → count_by (holds code c) xs ≤ 1 → count_by (eqb c) (codes xs) ≡ cond (is_some (number_of code xs c)) 1 0
   codes_once c xs h = rw (codes_count c xs, number_only code c xs h) (grind (arith, nat_tests))
 
   pub finite_from_sound : (spread : K → ℕ) (index : Index K) → Sound code spread index → Finite (map_of code index)
@@ -41,5 +35,5 @@ module _ {K : Type 0} (code : K → ℕ) where
     codes = codes (slots_of index);
     once = λ c. codes_once c (slots_of index) (s.different c);
     sized = codes_length (slots_of index);
-    within = count_by-le-length is_taken (slots_of index);
+    within = count_by-le-length is_some (slots_of index);
   }

@@ -1,17 +1,19 @@
 -- Closing the gap that a freed slot leaves.
-use Rattle.std.proofs.Common.{◌≡◌, ℕ, ◌+◌, ◌%◌, ◌<◌, ◌≤◌, true, List, length, get_or, set, sym, ◌∙◌, inl, inr, arith, length-set}
+use Rattle.std.proofs.Common.{◌≡◌, ℕ, ◌+◌, ◌%◌, ◌<◌, ◌≤◌, true, List, length, get_or, set, Option, is_some, Some, None, sym, ◌∙◌, inl, inr, arith, length-set}
 use Rattle.std.proofs.lemmas.List.{get_or-set_same, get_or-set_other}
+use Rattle.std.proofs.lemmas.Option.{none-some}
 use Rattle.std.proofs.lemmas.Bool.{both_ways, cases_eq, cases_lt}
-use Rattle.index.specs.declared.slot.Slot.{Slot}
-use Rattle.index.specs.declared.slot.Slot.TheVariants.{Free, Taken}
-use Rattle.index.specs.Places.{follower, steps}
-use Rattle.index.specs.Slots.{is_taken, Reached}
-use Rattle.index.proofs.Places.{steps_none, steps_same, steps_below, steps_follower, steps_round, steps_before, follower_below}
+use Rattle.std.specs.List.{SwappedAt}
+use Rattle.index.specs.declared.slot.Entry.{Entry}
+use Rattle.base.specs.Rings.{onward}
+use Rattle.index.specs.Places.{steps}
+use Rattle.index.specs.Slots.{Reached}
+use Rattle.index.proofs.Places.{steps_none, steps_same, steps_below, steps_onward, steps_round, steps_before, onward_below}
 use Rattle.index.proofs.Changes.{within_from_taken}
 
 -- a slot is not free and taken
-pub not_free : {K : Type 0} (x : Slot K) (k : K) (m : ℕ) → x ≡ Free → x ≡ Taken k m → ⊥
-not_free x k m free held = both_ways (is_taken x) (rw free) (rw held)
+pub not_free : {X : Type 0} (s : Option X) (x : X) → s ≡ None → s ≡ Some x → ⊥
+not_free s x free held = none-some x (sym free ∙ held)
 
 module _ {K : Type 0} (spread : K → ℕ) (n : ℕ) where
   -- whether p comes before q on the way from the key's home
@@ -20,124 +22,123 @@ module _ {K : Type 0} (spread : K → ℕ) (n : ℕ) where
 
   -- the slots while the gap is at hole: each key is reached but for the hole,
   -- and no key in a slot after the hole, up to the last one looked at, has the hole on its way
-  pub record Gap (xs : List (Slot K)) (hole last : ℕ) : Type 0 where
+  pub record Gap (xs : List (Option (Entry K))) (hole last : ℕ) : Type 0 where
     pub long : length xs ≡ n
     pub inside : hole < n
     pub looked : last < n
-    pub free : get_or xs hole Free ≡ Free
-    pub across : (q : ℕ) (k : K) (m : ℕ) → get_or xs q Free ≡ Taken k m → (p : ℕ) → p < n → (p ≡ hole → ⊥) → Ahead k p q → is_taken (get_or xs p Free) ≡ true
-    pub clear : (q : ℕ) (k : K) (m : ℕ) → get_or xs q Free ≡ Taken k m → steps n hole q ≤ steps n hole last → Ahead k hole q → ⊥
+    pub free : get_or xs hole None ≡ None
+    pub across : (q : ℕ) (x : Entry K) → get_or xs q None ≡ Some x → (p : ℕ) → p < n → (p ≡ hole → ⊥) → Ahead x.key p q → is_some (get_or xs p None) ≡ true
+    pub clear : (q : ℕ) (x : Entry K) → get_or xs q None ≡ Some x → steps n hole q ≤ steps n hole last → Ahead x.key hole q → ⊥
 
   -- the slots with one freed that were in order before
-  pub gap_none : (xs : List (Slot K)) (place : ℕ) → length xs ≡ n → place < n → Reached spread xs → Gap (set xs place Free) place place
+  pub gap_none : (xs : List (Option (Entry K))) (place : ℕ) → length xs ≡ n → place < n → Reached spread xs → Gap (set xs place None) place place
   gap_none xs place long inside reached =
       let fits : place < length xs = rw long inside in
-      let free = get_or-set_same xs place Free Free fits in
-      let kept : (p : ℕ) → (p ≡ place → ⊥) → get_or (set xs place Free) p Free ≡ get_or xs p Free = λ p off. get_or-set_other xs place p Free Free off in
+      let free = get_or-set_same xs place None None fits in
+      let kept : (p : ℕ) → (p ≡ place → ⊥) → get_or (set xs place None) p None ≡ get_or xs p None = λ p off. get_or-set_other xs place p None None off in
       let reaches = rw long at reached in
-      let apart : (q : ℕ) (k : K) (m : ℕ) → get_or (set xs place Free) q Free ≡ Taken k m → q ≡ place → ⊥ =
-      λ q k m e at. not_free (get_or (set xs place Free) q Free) k m (rw at free) e in
+      let apart : (q : ℕ) (x : Entry K) → get_or (set xs place None) q None ≡ Some x → q ≡ place → ⊥ =
+      λ q x e at. not_free (get_or (set xs place None) q None) x (rw at free) e in
       record {
-        long = length-set xs place Free ∙ long;
+        long = length-set xs place None ∙ long;
         inside = inside;
         looked = inside;
         free = free;
-        across = λ q k m e p l off b. rw (kept p off) (reaches q k m (sym (kept q (apart q k m e)) ∙ e) p l b);
-        clear = λ q k m e near b.
+        across = λ q x e p l off b. rw (kept p off) (reaches q x (sym (kept q (apart q x e)) ∙ e) p l b);
+        clear = λ q x e near b.
             let none = steps_none n place in
-            let in-q : q < n = rw (sym (length-set xs place Free ∙ long)) (within_from_taken (set xs place Free) q k m e) in
-            apart q k m e (steps_same n place q place inside in-q inside (omega arith));
+            let in-q : q < n = rw (sym (length-set xs place None ∙ long)) (within_from_taken (set xs place None) q x e) in
+            apart q x e (steps_same n place q place inside in-q inside (omega arith));
       }
 
-  module _ (xs : List (Slot K)) (hole last : ℕ) (gap : Gap xs hole last) where
-    below : (q : ℕ) (k : K) (m : ℕ) → get_or xs q Free ≡ Taken k m → q < n
-    below q k m e = rw (sym gap.long) (within_from_taken xs q k m e)
+  module _ (xs : List (Option (Entry K))) (hole last : ℕ) (gap : Gap xs hole last) where
+    below : (q : ℕ) (x : Entry K) → get_or xs q None ≡ Some x → q < n
+    below q x e = rw (sym gap.long) (within_from_taken xs q x e)
 
-    closed : ((q : ℕ) (k : K) (m : ℕ) → get_or xs q Free ≡ Taken k m → Ahead k hole q → ⊥) → Reached spread xs
-    closed none = rw gap.long (λ q k m e p l b. elim (cases_eq p hole) [
-      | inl same ↦ absurd (none q k m e (rw same at b))
-      | inr other ↦ gap.across q k m e p l other b
+    closed : ((q : ℕ) (x : Entry K) → get_or xs q None ≡ Some x → Ahead x.key hole q → ⊥) → Reached spread xs
+    closed none = rw gap.long (λ q x e p l b. elim (cases_eq p hole) [
+      | inl same ↦ absurd (none q x e (rw same at b))
+      | inr other ↦ gap.across q x e p l other b
     ])
 
     -- the whole round has been looked at
-    pub closed_round : follower n last ≡ hole → Reached spread xs
-    closed_round e = closed (λ q k m held b.
+    pub closed_round : onward n last ≡ hole → Reached spread xs
+    closed_round e = closed (λ q x held b.
         let r = steps_round n hole last gap.inside gap.looked e in
-        let s = steps_below n hole q gap.inside (below q k m held) in
-        gap.clear q k m held (omega arith) b)
+        let s = steps_below n hole q gap.inside (below q x held) in
+        gap.clear q x held (omega arith) b)
 
-    module _ (next : ℕ) (is : next ≡ follower n last) (other : next ≡ hole → ⊥) where
+    module _ (next : ℕ) (is : next ≡ onward n last) (other : next ≡ hole → ⊥) where
       in_next : next < n
-      in_next = rw is (follower_below n last gap.looked)
+      in_next = rw is (onward_below n last gap.looked)
 
       step : steps n hole next ≡ steps n hole last + 1
-      step = rw is (steps_follower n hole last gap.inside gap.looked (λ e. other (is ∙ e)))
+      step = rw is (steps_onward n hole last gap.inside gap.looked (λ e. other (is ∙ e)))
 
       -- no way leads across a free slot
-      pub closed_free : get_or xs next Free ≡ Free → Reached spread xs
-      closed_free free = closed (λ q k m held b.
-          let in-q = below q k m held in
-          let home = spread k % n in
+      pub closed_free : get_or xs next None ≡ None → Reached spread xs
+      closed_free free = closed (λ q x held b.
+          let in-q = below q x held in
+          let home = spread x.key % n in
           let in-home : home < n = omega arith in
           let more = step in
           elim (cases_lt (steps n hole last) (steps n hole q)) [
-            | inr near ↦ gap.clear q k m held near b
+            | inr near ↦ gap.clear q x held near b
             | inl far ↦ elim (cases_lt (steps n hole next) (steps n hole q)) [
-              | inl past ↦ both_ways (is_taken (get_or xs next Free)) (rw free)
-                  (gap.across q k m held next in_next other (steps_before n home hole next q in-home gap.inside in_next in-q b past))
+              | inl past ↦ both_ways (is_some (get_or xs next None)) (rw free)
+                  (gap.across q x held next in_next other (steps_before n home hole next q in-home gap.inside in_next in-q b past))
               | inr here ↦
                   let same : steps n hole q ≡ steps n hole next = omega arith in
-                  not_free (get_or xs q Free) k m (rw (steps_same n hole q next gap.inside in-q in_next same) free) held
+                  not_free (get_or xs q None) x (rw (steps_same n hole q next gap.inside in-q in_next same) free) held
             ]
           ])
 
-      module _ (k : K) (m : ℕ) (held : get_or xs next Free ≡ Taken k m) where
+      module _ (x : Entry K) (held : get_or xs next None ≡ Some x) where
         -- the next slot's key has not the hole on its way
-        pub gap_stays : (Ahead k hole next → ⊥) → Gap xs hole next
+        pub gap_stays : (Ahead x.key hole next → ⊥) → Gap xs hole next
         gap_stays off = record {
           long = gap.long;
           inside = gap.inside;
           looked = in_next;
           free = gap.free;
           across = gap.across;
-          clear = λ q k' m' e near b.
+          clear = λ q y e near b.
               let more = step in
               elim (cases_lt (steps n hole last) (steps n hole q)) [
-                | inr nearer ↦ gap.clear q k' m' e nearer b
+                | inr nearer ↦ gap.clear q y e nearer b
                 | inl far ↦
                     let same : steps n hole q ≡ steps n hole next = omega arith in
-                    let at = steps_same n hole q next gap.inside (below q k' m' e) in_next same in
-                    let one : k' ≡ k = cc in
+                    let at = steps_same n hole q next gap.inside (below q y e) in_next same in
+                    let one : y ≡ x = cc in
                     off (rw (at, one) at b)
               ];
         }
 
         -- the next slot's key moves into the hole, and its slot is the new one
-        pub gap_moves : (ys : List (Slot K)) → Ahead k hole next → length ys ≡ length xs →
-            get_or ys hole Free ≡ get_or xs next Free → get_or ys next Free ≡ get_or xs hole Free →
-            ((p : ℕ) → (p ≡ hole → ⊥) → (p ≡ next → ⊥) → get_or ys p Free ≡ get_or xs p Free) → Gap ys next next
-        gap_moves ys on same-long filled freed rest = record {
+        pub gap_moves : (ys : List (Option (Entry K))) → Ahead x.key hole next → length ys ≡ length xs → SwappedAt xs ys hole next → Gap ys next next
+        gap_moves ys on same-long (filled, freed, rest, _) = record {
           long = same-long ∙ gap.long;
           inside = in_next;
           looked = in_next;
-          free = freed ∙ gap.free;
-          across = λ q k' m' e p l off b. elim (cases_eq p hole) [
-            | inl at ↦ rw (at, filled, held)
-            | inr apart ↦ rw (rest p apart off) (elim (cases_eq q hole) [
+          free = freed None ∙ gap.free;
+          across = λ q y e p l off b. elim (cases_eq p hole) [
+            | inl at ↦ rw (at, filled None, held)
+            | inr apart ↦ rw (rest p None apart off) (elim (cases_eq q hole) [
               | inl home ↦
-                  let one : k' ≡ k = cc in
-                  let b' : Ahead k p hole = rw (home, one) at b in
-                  gap.across next k m held p l apart (omega arith)
+                  let moved = filled None in
+                  let one : y ≡ x = cc in
+                  let b' : Ahead x.key p hole = rw (home, one) at b in
+                  gap.across next x held p l apart (omega arith)
               | inr far ↦ elim (cases_eq q next) [
-                | inl at ↦ absurd (not_free (get_or ys q Free) k' m' (rw at (freed ∙ gap.free)) e)
-                | inr away ↦ gap.across q k' m' (sym (rest q far away) ∙ e) p l apart b
+                | inl at ↦ absurd (not_free (get_or ys q None) y (rw at (freed None ∙ gap.free)) e)
+                | inr away ↦ gap.across q y (sym (rest q None far away) ∙ e) p l apart b
               ]
             ])
           ];
-          clear = λ q k' m' e near b.
+          clear = λ q y e near b.
               let none = steps_none n next in
-              let in-q : q < n = rw (sym (same-long ∙ gap.long)) (within_from_taken ys q k' m' e) in
+              let in-q : q < n = rw (sym (same-long ∙ gap.long)) (within_from_taken ys q y e) in
               let same : steps n next q ≡ steps n next next = omega arith in
               let at = steps_same n next q next in_next in-q in_next same in
-              not_free (get_or ys q Free) k' m' (rw at (freed ∙ gap.free)) e;
+              not_free (get_or ys q None) y (rw at (freed None ∙ gap.free)) e;
         }

@@ -1,19 +1,11 @@
 -- What a put and a remove come to, by whether the code has a number.
-use Rattle.std.proofs.Common.{◌≡◌, ℕ, ◌+◌, ◌-◌, ◌<◌, ◌≤◌, eqb, ltb, is_some, Some, None, Ok, Err, Result, inl, inr, arith}
+use Rattle.std.proofs.Common.{◌≡◌, ℕ, ◌+◌, ◌-◌, ◌<◌, ◌≤◌, eqb, ltb, is_some, Some, None, Ok, Err, inl, inr}
 use mathlib.Core.Path.{fun_ext}
 use Rattle.std.specs.Map.{update}
 use Rattle.std.proofs.lemmas.Bool.{lt-ltb, le-ltb, or_right, cases_eq}
 use Rattle.std.proofs.lemmas.Map.{update_here, update_apart}
-use Rattle.base.specs.declared.refusal.Refusal.{Refusal}
 use Rattle.base.specs.declared.refusal.Refusal.TheVariants.{IndexFull}
 use Rattle.index.specs.Maps.{Map, put_answer, after_put, after_remove}
-
--- an acceptance is no refusal, and a number is not none
-pub ok_not_full : ◌≡◌ {A = Result (Unit {0}) Refusal} (Ok tt) (Err IndexFull) → ⊥
-ok_not_full e = let z : ◌≡◌ {A = ℕ} 0 1 = cc in omega arith
-
-pub some_not_none : (n : ℕ) → Some n ≡ None → ⊥
-some_not_none n e = let z : ◌≡◌ {A = ℕ} 0 1 = cc in omega arith
 
 module _ (m : Map) (code : ℕ) where
   pub put_answer_known : (number : ℕ) → m.at code ≡ Some number → put_answer m code ≡ Ok tt

@@ -1,7 +1,8 @@
 -- Steps between the places of a ring.
 use Rattle.std.proofs.Common.{◌≡◌, ℕ, ◌+◌, ◌-◌, ◌<◌, ◌≤◌, arith}
 use Rattle.std.proofs.lemmas.Bool.Decides.{nat_tests}
-use Rattle.index.specs.Places.{follower, steps}
+use Rattle.base.specs.Rings.{onward}
+use Rattle.index.specs.Places.{steps}
 
 module _ (n : ℕ) where
   pub steps_none : (a : ℕ) → steps n a a ≡ 0
@@ -14,18 +15,18 @@ module _ (n : ℕ) where
   pub steps_same : (a b c : ℕ) → a < n → b < n → c < n → steps n a b ≡ steps n a c → b ≡ c
   steps_same a b c p q r e = grind (arith, nat_tests)
 
-  pub follower_below : (a : ℕ) → a < n → follower n a < n
-  follower_below a p = grind (arith, nat_tests)
+  pub onward_below : (a : ℕ) → a < n → onward n a < n
+  onward_below a p = grind (arith, nat_tests)
 
-  pub steps_follower : (a b : ℕ) → a < n → b < n → (follower n b ≡ a → ⊥) → steps n a (follower n b) ≡ steps n a b + 1
-  steps_follower a b p q e = grind (arith, nat_tests)
+  pub steps_onward : (a b : ℕ) → a < n → b < n → (onward n b ≡ a → ⊥) → steps n a (onward n b) ≡ steps n a b + 1
+  steps_onward a b p q e = grind (arith, nat_tests)
 
   -- the place before a is the last of the round that starts at a
-  pub steps_round : (a b : ℕ) → a < n → b < n → follower n b ≡ a → steps n a b + 1 ≡ n
+  pub steps_round : (a b : ℕ) → a < n → b < n → onward n b ≡ a → steps n a b + 1 ≡ n
   steps_round a b p q e = grind (arith, nat_tests)
 
   -- a place on the way divides it
-  pub steps_between : (a b c : ℕ) → a < n → b < n → c < n → steps n a b ≤ steps n a c → steps n b c ≡ steps n a c - steps n a b
+  steps_between : (a b c : ℕ) → a < n → b < n → c < n → steps n a b ≤ steps n a c → steps n b c ≡ steps n a c - steps n a b
   steps_between a b c p q r h = grind (arith, nat_tests)
 
   -- what lies between b and d lies before d on the way that leads from a across b

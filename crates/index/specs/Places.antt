@@ -1,9 +1,5 @@
--- Places in a ring, numbered from 0: the first follows the last.
-use Rattle.std.specs.Prelude.{ℕ, ◌+◌, ◌-◌, cond, ◌==◌, nat_le}
-
--- the place that follows one
-abbrev pub follower : ℕ → ℕ → ℕ
-follower places place = cond (place + 1 == places) 0 (place + 1)
+-- Steps between the places of a ring, numbered from 0: the first follows the last.
+use Rattle.std.specs.Prelude.{ℕ, ◌+◌, ◌-◌, cond, nat_le}
 
 -- how many steps upward lead from one place to another
 abbrev pub steps : ℕ → ℕ → ℕ → ℕ

@@ -1,59 +1,53 @@
 -- How the slots of an index hold its map, and the property that every call needs and keeps.
 use Rattle.std.specs.Prelude.{◌≡◌, ℕ, ◌%◌, ◌<◌, ◌≤◌, ◌==◌, Bool, true, false, cond}
-use Rattle.std.specs.Prelude.{List, [], ◌∷◌, length, slice_index_or, count_by, Option, Some, None}
-use Rattle.index.specs.declared.slot.Slot.{Slot}
-use Rattle.index.specs.declared.slot.Slot.TheVariants.{Free, Taken}
+use Rattle.std.specs.Prelude.{List, [], ◌∷◌, length, slice_index_or, count_by, Option, is_some, Some, None}
+use Rattle.index.specs.declared.slot.Entry.{Entry}
 use Rattle.index.specs.declared.index.Index.{Index}
 use Rattle.index.specs.Maps.{Map}
 use Rattle.index.specs.Places.{steps}
 
--- the slots of an index
-abbrev pub slots_of : {K : Type 0} → Index K → List (Slot K)
+-- the slots of an index: None is a free one, and the others are taken
+abbrev pub slots_of : {K : Type 0} → Index K → List (Option (Entry K))
 slots_of index = index.slots.now
 
--- whether a slot is taken
-abbrev pub is_taken : {K : Type 0} → Slot K → Bool
-is_taken Free = false
-is_taken (Taken key number) = true
-
 -- whether a slot holds a key with a code
-abbrev pub holds : {K : Type 0} → (K → ℕ) → ℕ → Slot K → Bool
-holds code c Free = false
-holds code c (Taken key number) = c == code key
+abbrev pub holds : {K : Type 0} → (K → ℕ) → ℕ → Option (Entry K) → Bool
+holds code c None = false
+holds code c (Some entry) = c == code entry.key
 
 -- the number in the first slot that holds a key with a code
-abbrev pub number_of : {K : Type 0} → (K → ℕ) → List (Slot K) → ℕ → Option ℕ
+abbrev pub number_of : {K : Type 0} → (K → ℕ) → List (Option (Entry K)) → ℕ → Option ℕ
 number_of code [] c = None
-number_of code (Free ∷ slots) c = number_of code slots c
-number_of code (Taken key number ∷ slots) c = cond (c == code key) (Some number) (number_of code slots c)
+number_of code (None ∷ slots) c = number_of code slots c
+number_of code (Some entry ∷ slots) c = cond (c == code entry.key) (Some entry.number) (number_of code slots c)
 
 -- the map that slots hold
-abbrev pub slots_map : {K : Type 0} → (K → ℕ) → List (Slot K) → Map
-slots_map code slots = record { at = number_of code slots; size = count_by is_taken slots; places = length slots }
+abbrev pub slots_map : {K : Type 0} → (K → ℕ) → List (Option (Entry K)) → Map
+slots_map code slots = record { at = number_of code slots; size = count_by is_some slots; places = length slots }
 
 -- the map that an index holds
 abbrev pub map_of : {K : Type 0} → (K → ℕ) → Index K → Map
 map_of code index = slots_map code (slots_of index)
 
 -- the place from which a key is looked for
-abbrev pub home : {K : Type 0} → (K → ℕ) → List (Slot K) → K → ℕ
+abbrev pub home : {K : Type 0} → (K → ℕ) → List (Option (Entry K)) → K → ℕ
 home spread slots key = spread key % length slots
 
 -- whether a place comes before another on the way from a key's home
-abbrev pub Before : {K : Type 0} → (K → ℕ) → List (Slot K) → K → ℕ → ℕ → Type 0
+abbrev pub Before : {K : Type 0} → (K → ℕ) → List (Option (Entry K)) → K → ℕ → ℕ → Type 0
 Before spread slots key p q =
     steps (length slots) (home spread slots key) p < steps (length slots) (home spread slots key) q
 
 -- each key is reached from its spread: every slot on the way from its home to its own is taken
-abbrev pub Reached : {K : Type 0} → (K → ℕ) → List (Slot K) → Type 0
+abbrev pub Reached : {K : Type 0} → (K → ℕ) → List (Option (Entry K)) → Type 0
 Reached {K} spread slots =
-    (place : ℕ) (key : K) (number : ℕ) → slice_index_or slots place Free ≡ Taken key number →
-    (p : ℕ) → p < length slots → Before spread slots key p place → is_taken (slice_index_or slots p Free) ≡ true
+    (place : ℕ) (entry : Entry K) → slice_index_or slots place None ≡ Some entry →
+    (p : ℕ) → p < length slots → Before spread slots entry.key p place → is_some (slice_index_or slots p None) ≡ true
 
 -- what every call of an index needs and keeps
 pub record Sound {K : Type 0} (code spread : K → ℕ) (index : Index K) : Type 0 where
   -- the count is the number of taken slots
-  pub counted : index.taken ≡ count_by is_taken (slots_of index)
+  pub counted : index.taken ≡ count_by is_some (slots_of index)
   -- no two slots hold keys with one code
   pub different : (c : ℕ) → count_by (holds code c) (slots_of index) ≤ 1
   pub reached : Reached spread (slots_of index)

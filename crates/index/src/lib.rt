@@ -6,4 +6,4 @@ mod ring;
 mod slot;
 
 pub use index::Index;
-pub use slot::Slot;
+pub use slot::{Entry, Slot};

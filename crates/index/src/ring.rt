@@ -1,14 +1,6 @@
-// Places in a ring: the first follows the last.
+// Steps between the places of a ring.
 ghost use Rattle.std.specs.Prelude.{◌≡◌, ◌<◌};
-ghost use Rattle.index.specs.Places.{follower, steps as distance};
-
-// The place that follows one.
-pub fn after(places: usize, place: usize) -> usize
-    requires { place < places }
-    ensures { result ≡ follower places place }
-{
-    if place + 1 == places { 0 } else { place + 1 }
-}
+ghost use Rattle.index.specs.Places.{steps as distance};
 
 // How many steps upward lead from one place to another.
 pub fn steps(places: usize, from: usize, to: usize) -> usize

@@ -7,7 +7,7 @@ ghost use Rattle.index.specs.Slots.{map_of, slots_of, Sound};
 
 use super::Index;
 use super::probing::{Probe, look_up, vacate};
-use crate::slot::Slot;
+use crate::slot::{Entry, Slot};
 use base::{Key, Refusal};
 
 impl<'a, K: Key> Index<'a, K> {
@@ -16,9 +16,7 @@ impl<'a, K: Key> Index<'a, K> {
         ensures sound { Sound K.Key.code K.Key.spread result }
         ensures map { map_of K.Key.code result ≡ empty (length slots.old) }
     {
-        for slot in slots.iter_mut() {
-            *slot = Slot::Free;
-        }
+        slots.fill(None);
         Index { slots, taken: 0 }
     }
 
@@ -34,6 +32,7 @@ impl<'a, K: Key> Index<'a, K> {
     }
 
     // Stores the number with the key, in place of the one before if there is one.
+    #[tactic(auto, using(crate::proofs::Changes::within_from_taken))]
     pub fn put(&mut self, key: K, number: u32) -> Result<(), Refusal>
         requires { Sound K.Key.code K.Key.spread self.old }
         ensures sound { Sound K.Key.code K.Key.spread self.new }
@@ -43,11 +42,11 @@ impl<'a, K: Key> Index<'a, K> {
     {
         match self.probe(&key) {
             Probe::Found { place, .. } => {
-                self.slots[place] = Slot::Taken { key, number };
+                self.slots[place] = Some(Entry { key, number });
                 Ok(())
             }
             Probe::Vacant(place) => {
-                self.slots[place] = Slot::Taken { key, number };
+                self.slots[place] = Some(Entry { key, number });
                 self.taken += 1;
                 Ok(())
             }
@@ -56,6 +55,7 @@ impl<'a, K: Key> Index<'a, K> {
     }
 
     // Takes the key out, and answers the number that was stored with it.
+    #[tactic(auto, using(crate::proofs::Changes::within_from_taken))]
     pub fn remove(&mut self, key: &K) -> Option<u32>
         requires { Sound K.Key.code K.Key.spread self.old }
         ensures sound { Sound K.Key.code K.Key.spread self.new }
@@ -63,14 +63,12 @@ impl<'a, K: Key> Index<'a, K> {
         ensures map { map_of K.Key.code self.new ≡ after_remove (map_of K.Key.code self.old) (K.Key.code key.now) }
         ensures absent { result ≡ None → self.new ≡ self.old }
     {
-        match self.probe(key) {
-            Probe::Found { place, number } => {
-                vacate(self.slots, place);
-                self.taken -= 1;
-                Some(number)
-            }
-            _ => None,
-        }
+        let Probe::Found { place, number } = self.probe(key) else {
+            return None;
+        };
+        vacate(self.slots, place);
+        self.taken -= 1;
+        Some(number)
     }
 
     // Where the key stands, or would stand.

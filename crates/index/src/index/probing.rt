@@ -1,12 +1,12 @@
 // Where a key stands, and how a slot is freed. The way of a key leads from its home upward, slot by slot
 // and from the last on to the first, and ends at its own slot or at a free one.
-ghost use Rattle.std.specs.Prelude.{◌≡◌, ◌<◌, length};
+ghost use Rattle.std.specs.Prelude.{◌≡◌, ◌<◌, ◌≤◌, not, length};
 ghost use Rattle.index.specs.Slots.{home, Reached};
-ghost use Rattle.index.specs.Probes.{Probed, Vacated};
+ghost use Rattle.index.specs.Probes.{passes, Probed, Stops, StopsBetween, Vacated};
 
-use crate::ring::{after, steps};
+use crate::ring::steps;
 use crate::slot::Slot;
-use base::Key;
+use base::{Key, next_in_ring};
 
 // What looking for a key comes to: its slot, or the free slot to put it into, or neither in a full table.
 #[derive(Clone, Copy)]
@@ -24,61 +24,82 @@ fn home_of<K: Key>(slots: &[Slot<K>], key: &K) -> usize
     key.spread() as usize % slots.len()
 }
 
+// Whether a slot is free or holds a key with the code.
+fn stops<K: Key>(slot: &Slot<K>, code: u64) -> bool
+    ensures { result ≡ not (passes K.Key.code code slot.now) }
+{
+    match slot {
+        None => true,
+        Some(entry) => entry.key.code() == code,
+    }
+}
+
+// The first place from one up to another whose slot is free or holds a key with the code.
+fn stop_between<K: Key>(slots: &[Slot<K>], code: u64, from: usize, to: usize) -> Option<usize>
+    requires { (from ≤ to) × (to ≤ length slots.now) }
+    ensures { StopsBetween K.Key.code slots.now code from to result }
+{
+    let at = slots[from..to].iter().position(|slot| stops(slot, code))?;
+    Some(from + at)
+}
+
+// The first place on the way of a key whose slot is free or holds the key.
+fn stop_of<K: Key>(slots: &[Slot<K>], key: &K) -> Option<usize>
+    requires { 0 < length slots.now }
+    ensures { Stops K.Key.code K.Key.spread slots.now key.now result }
+{
+    let code = key.code();
+    let home = home_of(slots, key);
+    if let Some(place) = stop_between(slots, code, home, slots.len()) {
+        return Some(place);
+    }
+    stop_between(slots, code, 0, home)
+}
+
 // Looks for a key: the slot that holds it, else the first free slot on its way.
 pub fn look_up<K: Key>(slots: &[Slot<K>], key: &K) -> Probe
     requires { Reached K.Key.spread slots.now }
     ensures { Probed K.Key.code K.Key.spread slots.now key.now result }
 {
-    let places = slots.len();
-    if places == 0 {
+    if slots.is_empty() {
         return Probe::Full;
     }
-    let code = key.code();
-    let start = home_of(slots, key);
-    let mut place = start;
-    loop {
-        let slot = slots[place];
-        match slot {
-            Slot::Free => return Probe::Vacant(place),
-            Slot::Taken { key: held, number } => {
-                if held.code() == code {
-                    return Probe::Found { place, number };
-                }
-            }
-        }
-        place = after(places, place);
-        if place == start {
-            return Probe::Full;
-        }
+    let Some(place) = stop_of(slots, key) else {
+        return Probe::Full;
+    };
+    match slots[place] {
+        None => Probe::Vacant(place),
+        Some(entry) => Probe::Found {
+            place,
+            number: entry.number,
+        },
     }
 }
 
 // Frees a slot, and closes the gap: a later key whose way leads across the free slot moves into it, which frees
-// its own. This ends at a slot that was free before, or in a full table after a whole round without a move.
+// its own. This ends at a slot that was free before, or in a full table after a whole round without a move,
+// which can be more than one round in all.
 pub fn vacate<K: Key>(slots: &mut [Slot<K>], place: usize)
     requires within { place < length slots.old }
     requires reached { Reached K.Key.spread slots.old }
     ensures { Vacated K.Key.spread slots.old place slots.new }
 {
     let places = slots.len();
-    slots[place] = Slot::Free;
+    slots[place] = None;
     let mut hole = place;
     let mut last = place;
     loop {
-        let next = after(places, last);
+        let next = next_in_ring(places, last);
         if next == hole {
             return;
         }
-        let slot = slots[next];
-        match slot {
-            Slot::Free => return,
-            Slot::Taken { key, .. } => {
-                let home = home_of(slots, &key);
-                if steps(places, home, hole) < steps(places, home, next) {
-                    slots.swap(hole, next);
-                    hole = next;
-                }
-            }
+        let Some(entry) = slots[next] else {
+            return;
+        };
+        let home = home_of(slots, &entry.key);
+        if steps(places, home, hole) < steps(places, home, next) {
+            slots.swap(hole, next);
+            hole = next;
         }
         last = next;
     }

@@ -5,7 +5,7 @@ use Rattle.index.proofs.index.Index.find.Goals as goal
 
 pub returns-in-Found : goal.returns-in-Found
 returns-in-Found g c =
-    sym (found_at g.K.Key.code g.K.Key.spread _ c.requires.different c.in-Found.place _ _ c.in-Found.ensures)
+    sym (found_at g.K.Key.code g.K.Key.spread _ c.requires.different c.in-Found.place _ c.in-Found.ensures)
 
 pub returns-in_default : goal.returns-in_default
 returns-in_default g c =

@@ -1,37 +1,30 @@
-use Rattle.std.proofs.Common.{sym, refl, arith}
+use Rattle.std.proofs.Common.{sym, refl, arith, rules}
 use Rattle.index.specs.Slots.{slots_of, slots_map}
-use Rattle.index.proofs.Changes.{within_from_taken}
-use Rattle.index.proofs.Maps.{some_not_none, after_remove_none}
+use Rattle.index.proofs.Maps.{after_remove_none}
 use Rattle.index.proofs.Updates.{found_at, absent_none, absent_from_rest, removed_size, removed_different, removed_map}
 use Rattle.index.proofs.index.Index.remove.Goals as goal
 
-pub vacate-requires : goal.vacate-requires
-vacate-requires g c = record {
-  within = within_from_taken _ c.in-Found.place _ _ c.in-Found.ensures;
-  reached = c.requires.reached;
-}
-
 pub overflow_sub-self : goal.overflow_sub-self
 overflow_sub-self g c =
-    let size = removed_size g.K.Key.code g.K.Key.spread _ c.requires.different c.in-Found.place _ _ c.in-Found.ensures _ c.vacate.ensures in
+    let size = removed_size g.K.Key.code g.K.Key.spread _ c.requires.different c.in-Found.place _ c.in-Found.ensures _ c.vacate.ensures in
     omega (arith, c.requires.counted)
 
-pub returns-in-Found : goal.returns-in-Found
-returns-in-Found g c =
+pub returns : goal.returns
+returns g c =
     let code = g.K.Key.code in let spread = g.K.Key.spread in
     let xs = slots_of c.args.self.now in let p = c.in-Found.place in let k = c.args.key.now in
     let there = c.in-Found.ensures in
     let different = c.requires.different in
-    let size = removed_size code spread xs different p k _ there _ c.vacate.ensures in
+    let size = removed_size code spread xs different p _ there _ c.vacate.ensures in
     record {
       sound = record {
         counted = omega (arith, c.requires.counted);
-        different = removed_different code spread xs different p k _ there _ c.vacate.ensures;
+        different = removed_different code spread xs different p _ there _ c.vacate.ensures;
         reached = c.vacate.ensures.reached;
       };
-      answer = sym (found_at code spread xs different p k _ there);
-      map = removed_map code spread xs different p k _ there _ c.vacate.ensures;
-      absent = λ e. absurd (some_not_none _ e);
+      answer = sym (found_at code spread xs different p _ there);
+      map = removed_map code spread xs different p _ there _ c.vacate.ensures;
+      absent = search rules;
     }
 
 pub returns-in_default : goal.returns-in_default
