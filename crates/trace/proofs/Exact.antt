@@ -7,7 +7,7 @@ use Rattle.base.specs.declared.key.volume.VolumeKey.{VolumeKey}
 use Rattle.trace.specs.declared.fault.LineFault.{LineFault}
 use Rattle.trace.specs.declared.fault.ReplayFault.{ReplayFault}
 use Rattle.trace.specs.Splits.{lines}
-use Rattle.trace.specs.Touches.{judged_lines, in_replay, placed, judged, counted, accepted, touches_in, Filled, Written}
+use Rattle.trace.specs.Touches.{judged_lines, in_replay, placed, judged, counted, Written}
 use Rattle.trace.specs.Traces.{Trace, Within, Reads}
 use Rattle.trace.proofs.Accepted.{never, ok_same, then_parts, cond_parts, choice_parts}
 use Rattle.trace.proofs.Sound.{text_sound, lines_few}
@@ -68,27 +68,8 @@ reads_all text answer before after is written = record {
       (is ∙ ap counted e, written_first (judged text (length before)) ts before after e written);
 }
 
--- what reading owes: the answer and the keys by the definition, and by what a trace is
-pub record Owed (text : List ℕ) (answer : Result ℕ ReplayFault) (before after : List VolumeKey) : Type 0 where
-  pub answer_is : answer ≡ counted (judged text (length before))
-  pub keys_are : Written (judged text (length before)) before after
-  pub reads : Reads text answer before after
-
-module _ (text : List ℕ) (answer : Result ℕ ReplayFault) (before : List VolumeKey) (is : answer ≡ counted (judged text (length before))) where
-  owed : (after : List VolumeKey) (r : Result (List ℕ) ReplayFault) → judged text (length before) ≡ r → Written r before after → Owed text answer before after
-  owed after r e written =
-      let w = subst (λ s. Written s before after) (sym e) written in
-      record { answer_is = is; keys_are = w; reads = reads_all text answer before after is w }
-
-  pub owed_refused : (f : ReplayFault) → answer ≡ Err f → Owed text answer before before
-  owed_refused f e = owed before (Err f) (counted_err (judged text (length before)) f (sym is ∙ e)) refl
-
-  pub owed_accepted : (n : ℕ) (after : List VolumeKey) → answer ≡ Ok n → Filled (touches_in text) before after → Owed text answer before after
-  owed_accepted n after e filled =
-      let p = counted_parts (judged text (length before)) n (sym is ∙ e) in
-      let same = ap accepted (judged_parts text (length before) p.0 p.1).accepts in
-      owed after (Ok p.0) p.1 (subst (λ ts. Filled ts before after) same filled)
-
 pub reads_refused : (text : List ℕ) (answer : Result ℕ ReplayFault) (keys : List VolumeKey) → answer ≡ counted (judged text (length keys)) → IsErr answer → Reads text answer keys keys
-reads_refused text (Err f) keys is e = (owed_refused text (Err f) keys is f refl).reads
 reads_refused text (Ok n) keys is e = absurd cc
+reads_refused text (Err f) keys is e =
+    let refused = counted_err (judged text (length keys)) f (sym is) in
+    reads_all text (Err f) keys keys is (subst (λ r. Written r keys keys) (sym refused) refl)

@@ -1,11 +1,11 @@
 -- Lines that are judged one after another. Assumes nothing.
-use Rattle.std.proofs.Common.{◌≡◌, ℕ, ◌+◌, ◌<◌, ◌≤◌, leb, List, ◌∷◌, ◌++◌, length, Ok, Err, Result, sym, refl, ap, ◌∙◌, add_assoc, zero-add, length-append}
-use Rattle.std.proofs.lemmas.Bool.{le-leb, lt-leb, leb-true}
+use Rattle.std.proofs.Common.{◌≡◌, ℕ, ◌+◌, ◌≤◌, leb, List, ◌∷◌, ◌++◌, length, Ok, Err, Result, sym, refl, ap, ◌∙◌, add_assoc, length-append}
+use Rattle.std.proofs.lemmas.Bool.{le-leb, leb-true}
 use Rattle.trace.specs.declared.access.Access.{Access}
 use Rattle.trace.specs.declared.fault.LineFault.{LineFault}
 use Rattle.trace.specs.declared.fault.LineFault.TheVariants as line_fault
 use Rattle.trace.specs.Accesses.{and_then, access_of}
-use Rattle.trace.specs.Touches.{touches, so_far, judged_lines, counted}
+use Rattle.trace.specs.Touches.{touches, so_far, judged_lines}
 use Rattle.trace.proofs.Accepted.{ok_same, then_parts, cond_parts}
 use Rattle.trace.proofs.Sectors.{length-upward}
 
@@ -13,10 +13,6 @@ use Rattle.trace.proofs.Sectors.{length-upward}
 abbrev pub added : ℕ → Result (List ℕ) LineFault → Result ℕ LineFault
 added t (Ok ts) = Ok (t + length ts)
 added t (Err e) = Err e
-
-pub added_none : (r : Result (List ℕ) LineFault) → added 0 r ≡ counted r
-added_none (Ok ts) = rw (zero-add (length ts))
-added_none (Err e) = refl
 
 added_front : (t k : ℕ) (xs : List ℕ) (r : Result (List ℕ) LineFault) → length xs ≡ k → added t (and_then r (λ more. Ok (xs ++ more))) ≡ added (t + k) r
 added_front t k xs (Ok ts) e = rw (length-append xs ts, e, add_assoc t k (length ts))
@@ -28,12 +24,6 @@ length-touches a = length-upward a.asu a.lba a.sectors
 module _ (n t : ℕ) (l : List ℕ) (ls : List (List ℕ)) where
   pub judged_more : (a : Access) → access_of n l ≡ Ok a → t + a.sectors ≤ 4096 → added t (judged_lines n t (l ∷ ls)) ≡ added (t + a.sectors) (judged_lines (n + 1) (t + a.sectors) ls)
   judged_more a e h = rw (e, le-leb (t + a.sectors) 4096 h) (added_front t a.sectors (touches a) (judged_lines (n + 1) (t + a.sectors) ls) (length-touches a))
-
-  pub judged_many : (a : Access) → access_of n l ≡ Ok a → 4096 < t + a.sectors → added t (judged_lines n t (l ∷ ls)) ≡ Err (line_fault.TooManyTouches n)
-  judged_many a e h = rw (e, lt-leb (t + a.sectors) 4096 h)
-
-  pub judged_stop : (f : LineFault) → access_of n l ≡ Err f → added t (judged_lines n t (l ∷ ls)) ≡ Err f
-  judged_stop f e = rw e
 
   -- what an accepted first line tells
   pub judged_parts : (ts : List ℕ) → judged_lines n t (l ∷ ls) ≡ Ok ts → (a : Access) × (access_of n l ≡ Ok a) × (t + a.sectors ≤ 4096) × ((more : List ℕ) × (judged_lines (n + 1) (t + a.sectors) ls ≡ Ok more) × (touches a ++ more ≡ ts))

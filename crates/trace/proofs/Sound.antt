@@ -1,7 +1,8 @@
 -- An accepted text is a trace. Assumes nothing.
-use Rattle.std.proofs.Common.{◌≡◌, ℕ, ◌+◌, ◌*◌, ◌≤◌, Bool, true, false, cond, ◌&&◌, ◌||◌, eqb, leb, List, [], ◌∷◌, ◌++◌, length, get_or, is_some, Some, None, Ok, Option, sym, refl, ap, ◌∙◌, subst, inl, inr, append-nil, arith, length-append}
+use Rattle.std.proofs.Common.{◌≡◌, ℕ, ◌+◌, ◌*◌, ◌≤◌, true, false, ◌&&◌, ◌||◌, eqb, leb, List, [], ◌∷◌, ◌++◌, length, get_or, is_some, Some, None, Ok, Option, sym, refl, ap, ◌∙◌, subst, inl, inr, append-nil, arith, length-append}
 use Rattle.std.specs.List.{AllByRecursion}
 use Rattle.std.proofs.lemmas.Bool.{cases_Bool, and_parts, and_right, or_cases, leb-true, eqb-true, false≢true}
+use Rattle.std.proofs.lemmas.Option.{none-some, cond_some}
 use Rattle.trace.specs.declared.access.Access.{Access}
 use Rattle.trace.specs.declared.access.Opcode.{Opcode}
 use Rattle.trace.specs.Splits.{led, parts, lines}
@@ -12,12 +13,6 @@ use Rattle.trace.specs.Traces.{Number, OpcodeText, upper_r, lower_r, upper_w, lo
 use Rattle.trace.proofs.Splitting.{rejoined, rejoined_parts}
 use Rattle.trace.proofs.Accepted.{ok_same, line_held}
 use Rattle.trace.proofs.Judging.{judged_parts, length-touches}
-
-never_some : {T P : Type 0} {x : T} → ◌≡◌ {A = Option T} None (Some x) → P
-never_some h = let z : ◌≡◌ {A = ℕ} 0 1 = cc in absurd (omega arith)
-
-some_same : {T : Type 0} {x y : T} → ◌≡◌ {A = Option T} (Some x) (Some y) → x ≡ y
-some_same h = cc
 
 some_of : {T : Type 0} (o : Option T) → is_some o ≡ true → (x : T) × (o ≡ Some x)
 some_of None e = absurd (false≢true e)
@@ -30,21 +25,17 @@ all_numeric (b ∷ bs) e =
     let q = and_parts (leb 48 b) (leb b 57) p.0 in
     ((leb-true 48 b q.0, leb-true b 57 q.1), all_numeric bs p.1)
 
-chosen_parts : {T : Type 0} (b : Bool) (x y : T) → cond b (Some x) None ≡ Some y → (b ≡ true) × (x ≡ y)
-chosen_parts true x y h = (refl, some_same h)
-chosen_parts false x y h = never_some h
-
 pub number_read : (most : ℕ) (bs : List ℕ) (n : ℕ) → numeral most bs ≡ Some n → Number most bs n
 number_read most bs n e =
-    let p = chosen_parts _ (value bs) n e in
+    let p = cond_some _ (value bs) n e in
     let q = and_parts (leb 1 (length bs) && leb (length bs) most) (all_digits bs) p.0 in
     let r = and_parts (leb 1 (length bs)) (leb (length bs) most) q.0 in
     record { some = leb-true 1 (length bs) r.0; few = leb-true (length bs) most r.1; digits = all_numeric bs q.1; writes = p.1 }
 
 most_read : (m : ℕ) (o : Option ℕ) (n : ℕ) → at_most m o ≡ Some n → (o ≡ Some n) × (n ≤ m)
-most_read m None n e = never_some e
+most_read m None n e = absurd (none-some _ e)
 most_read m (Some k) n e =
-    let p = chosen_parts (leb k m) k n e in
+    let p = cond_some (leb k m) k n e in
     let low = leb-true k m p.0 in
     (ap (λ z. Some z) p.1, subst (λ z. z ≤ m) p.1 low)
 
@@ -52,12 +43,12 @@ letter : (b c : ℕ) → eqb b c ≡ true → OpcodeText (c ∷ []) → OpcodeTe
 letter b c e h = subst (λ z. OpcodeText (z ∷ [])) (sym (eqb-true b c e)) h
 
 opcode_read : (bs : List ℕ) (o : Opcode) → opcode_of bs ≡ Some o → OpcodeText bs
-opcode_read [] o e = never_some e
-opcode_read (b ∷ c ∷ bs) o e = never_some e
+opcode_read [] o e = absurd (none-some _ e)
+opcode_read (b ∷ c ∷ bs) o e = absurd (none-some _ e)
 opcode_read (b ∷ []) o e =
     elim (cases_Bool (eqb b 82 || eqb b 114)) [
       | inl r ↦ elim (or_cases (eqb b 82) (eqb b 114) r) [ inl h ↦ letter b 82 h upper_r | inr h ↦ letter b 114 h lower_r ]
-      | inr r ↦ elim (or_cases (eqb b 87) (eqb b 119) (chosen_parts _ _ o (rw r at e)).0) [ inl h ↦ letter b 87 h upper_w | inr h ↦ letter b 119 h lower_w ]
+      | inr r ↦ elim (or_cases (eqb b 87) (eqb b 119) (cond_some _ _ o (rw r at e)).0) [ inl h ↦ letter b 87 h upper_w | inr h ↦ letter b 119 h lower_w ]
     ]
 
 stamp_read : (ps : List (List ℕ)) → stamp_parts ps ≡ true → TimeStamp (rejoined 46 ps)

@@ -1,6 +1,9 @@
 -- How the parts and the lines of a text come from its first mark. Assumes nothing.
-use Rattle.std.proofs.Common.{◌≡◌, ℕ, suc, ◌+◌, ◌-◌, ◌<◌, ◌≤◌, false, cond, ◌&&◌, eqb, ltb, List, [], ◌∷◌, ◌++◌, length, get_or, take, drop, sym, refl, ap, ◌∙◌, inl, inr, arith, length-append}
-use Rattle.std.proofs.lemmas.List.{drop-drop, drop_at, drop_all}
+use Rattle.std.proofs.Common.{◌≡◌, ◌≢◌, ℕ, suc, ◌+◌, ◌-◌, ◌<◌, Bool, false, cond, ◌&&◌, eqb, ltb, List, [], ◌∷◌, ◌++◌, length, get_or, take, drop, Some, sym, refl, ap, ◌∙◌, subst, inl, inr, arith, length-drop}
+use Rattle.std.specs.List.{position, position_or_len, before_first, after_first}
+use Rattle.std.proofs.lemmas.List.{drop-drop, drop_at, drop_all, take_all}
+use Rattle.std.proofs.lemmas.List.Sums.{split_at_first, passes_at_first}
+use Rattle.std.proofs.lemmas.Option.{cond_some}
 use Rattle.std.proofs.lemmas.Bool.{ne_eqb, eq-eqb, eqb-true, lt-ltb, ltb-true, cases_Bool, and_from, and_parts, and_right, both_ways}
 use Rattle.trace.specs.Splits.{led, parts, feeds, lines, Lacks, Cut}
 use Rattle.trace.specs.Reading.{Stripped}
@@ -16,12 +19,6 @@ parts_cut mark (b ∷ bs) rest h = rw (ne_eqb b mark h.0, parts_cut mark bs rest
 pub parts_at : {mark : ℕ} {text before behind : List ℕ} → Cut mark text before behind → parts mark text ≡ before ∷ parts mark behind
 parts_at {mark} {text} {before} {behind} h = rw h.whole (parts_cut mark before behind h.first)
 
-pub length_none : (mark : ℕ) (bs : List ℕ) → Lacks mark bs → length (parts mark bs) ≡ 1
-length_none mark bs h = ap length (parts_none mark bs h)
-
-pub length_at : {mark : ℕ} {text before behind : List ℕ} → Cut mark text before behind → length (parts mark text) ≡ suc (length (parts mark behind))
-length_at h = ap length (parts_at h)
-
 led_some : (b : ℕ) (ps : List (List ℕ)) → 0 < length (led b ps)
 led_some b [] = omega arith
 led_some b (p ∷ ps) = omega arith
@@ -29,6 +26,43 @@ led_some b (p ∷ ps) = omega arith
 pub parts_some : (mark : ℕ) (bs : List ℕ) → 0 < length (parts mark bs)
 parts_some mark [] = omega arith
 parts_some mark (b ∷ bs) = elim (cases_Bool (eqb b mark)) [ inl e ↦ rw e (omega arith) | inr e ↦ rw e (led_some b (parts mark bs)) ]
+
+-- how many parts a text does not have: one more than what is left behind its first mark
+pub one_part : (mark : ℕ) (bs : List ℕ) (n : ℕ) → 1 < n → Lacks mark bs → length (parts mark bs) ≢ n
+one_part mark bs n l h e = let one = ap length (parts_none mark bs h) in omega arith
+
+module _ {mark : ℕ} {text before behind : List ℕ} (h : Cut mark text before behind) where
+  pub two_parts : length (parts mark text) ≢ 1
+  two_parts e = let all = ap length (parts_at h) in let more = parts_some mark behind in omega arith
+
+  pub parts_more : (n : ℕ) → length (parts mark behind) ≢ n → length (parts mark text) ≢ n + 1
+  parts_more n other e = let all = ap length (parts_at h) in other (omega arith)
+
+  pub parts_next : {ps : List (List ℕ)} → parts mark behind ≡ ps → parts mark text ≡ before ∷ ps
+  parts_next rest = parts_at h ∙ ap (λ ps. before ∷ ps) rest
+
+-- a text is cut at the first place of its mark
+lacks_before : (mark : ℕ) (bs : List ℕ) → Lacks mark (before_first (λ b. eqb b mark) bs)
+lacks_before mark [] = tt
+lacks_before mark (b ∷ bs) = elim (cases_Bool (eqb b mark)) [
+  | inl e ↦ rw e tt
+  | inr e ↦
+      let n = position_or_len (λ x. eqb x mark) bs in
+      let next : 1 + n ≡ suc n = omega arith in
+      rw (e, next) (λ same. both_ways _ e (eq-eqb b mark same), lacks_before mark bs)
+]
+
+pub cut_first : (mark at : ℕ) (text : List ℕ) → position (λ b. eqb b mark) text ≡ Some at → Cut mark text (take at text) (take (length text - (at + 1)) (drop (at + 1) text))
+cut_first mark at text e =
+    let p : ℕ → Bool = λ b. eqb b mark in
+    let found = cond_some _ (position_or_len p text) at e in
+    let within : position_or_len p text < length text = ltb-true _ _ found.0 in
+    let all = take_all (length text - (position_or_len p text + 1)) (after_first p text) (rw length-drop (omega arith)) in
+    let same = eqb-true _ _ (passes_at_first p text 0 within) in
+    subst (λ i. Cut mark text (take i text) (take (length text - (i + 1)) (drop (i + 1) text))) found.1 (record {
+      whole = split_at_first p text 0 within ∙ (λ i. before_first p text ++ (same i ∷ sym all i));
+      first = lacks_before mark text;
+    })
 
 -- parts with their marks between them again
 abbrev pub rejoined : ℕ → List (List ℕ) → List ℕ
@@ -79,20 +113,12 @@ first_fed text before behind h =
     let rest : drop (length before + 1) (before ++ (10 ∷ behind)) ≡ behind = sym (drop-drop 1 (length before) (before ++ (10 ∷ behind))) ∙ ap (drop 1) (drop_at before (10 ∷ behind) (length before) refl) in
     rw (h.whole, rest) (lines_fed before behind h.first)
 
-pub first_fed_within : (text before behind : List ℕ) → Cut 10 text before behind → length before + 1 ≤ length text
-first_fed_within text before behind h = rw (h.whole, length-append) (omega arith)
-
 pub lines_only : (text : List ℕ) → 0 < length text → Lacks 10 text → lines text ≡ text ∷ []
 lines_only [] l h = absurd (omega arith)
 lines_only (b ∷ bs) l h = lines_last b bs h
 
 pub first_last : (text : List ℕ) → 0 < length text → Lacks 10 text → lines text ≡ text ∷ lines (drop (length text) text)
 first_last text l h = rw (drop_all (length text) text (omega arith)) (lines_only text l h)
-
--- a line more is read
-pub lines_more : (text rest line : List ℕ) (place len : ℕ) → rest ≡ drop place text → lines rest ≡ line ∷ lines (drop len rest) → lines (drop place text) ≡ line ∷ lines (drop (place + len) text)
-lines_more text rest line place len e h =
-    ap lines (sym e) ∙ h ∙ ap (λ t. line ∷ lines t) (ap (drop len) e ∙ drop-drop len place text)
 
 unreturned_off : (bs : List ℕ) → 0 < length bs → get_or bs (length bs - 1) 0 ≡ 13 → take (length bs - 1) bs ≡ unreturned bs
 unreturned_off [] l e = absurd (omega arith)

@@ -4,7 +4,7 @@ use Rattle.std.proofs.lemmas.Bool.{and_parts, and_right, both_ways, cases_Bool}
 use Rattle.trace.specs.Splits.{parts, Lacks, Cut}
 use Rattle.trace.specs.Numerals.{digit, all_digits, numeral}
 use Rattle.trace.specs.Accesses.{stamp_parts, time_stamp}
-use Rattle.trace.proofs.Splitting.{parts_none, parts_at, parts_some, rejoined, rejoined_parts}
+use Rattle.trace.proofs.Splitting.{parts_none, parts_at, parts_some, parts_next, rejoined, rejoined_parts}
 use Rattle.trace.proofs.Numerals.{numeral_refused}
 
 -- what is no digit does not stand among digits
@@ -28,7 +28,7 @@ fraction_refused whole (p ∷ q ∷ ps) l e = refl
 pub stamp_cut : (text whole fraction : List ℕ) → Cut 46 text whole fraction → time_stamp text ≡ (is_some (numeral 10 whole) && is_some (numeral 9 fraction))
 stamp_cut text whole fraction h =
     elim (cases_Bool (all_digits fraction)) [
-      | inl e ↦ ap stamp_parts (parts_at h ∙ ap (λ ps. whole ∷ ps) (parts_none 46 fraction (digits_lack 46 fraction refl e)))
+      | inl e ↦ ap stamp_parts (parts_next h (parts_none 46 fraction (digits_lack 46 fraction refl e)))
       | inr e ↦
           let none = numeral_refused 9 fraction e in
           ap stamp_parts (parts_at h)

@@ -1,5 +1,5 @@
 -- What each fault of a trace is reported by: the number of the refusal, the line and the field. Assumes nothing.
-use Rattle.std.specs.Prelude.{ℕ}
+use Rattle.std.specs.Prelude.{ℕ, List, ◌∷◌, ◌++◌, decimal}
 use Rattle.base.specs.Refusals.{number}
 use Rattle.base.specs.declared.refusal.Refusal.TheVariants as refusal
 use Rattle.trace.specs.declared.fault.Field.{Field}
@@ -10,6 +10,7 @@ use Rattle.trace.specs.declared.fault.LineFault.TheVariants as line_fault
 use Rattle.trace.specs.declared.fault.ReplayFault.{ReplayFault}
 use Rattle.trace.specs.declared.fault.ReplayFault.TheVariants as replay_fault
 use Rattle.trace.specs.declared.fault.Report.{Report}
+use Rattle.trace.specs.Splits.{comma}
 
 -- fields count from 1
 abbrev pub field_number : Field → ℕ
@@ -33,3 +34,7 @@ line_report (line_fault.TooManyTouches line) = record { number = number refusal.
 abbrev pub reported : ReplayFault → Report
 reported (replay_fault.Line f) = line_report f
 reported (replay_fault.Refused r) = record { number = number r; line = 0; field = 0 }
+
+-- a report is printed as its number, line and field, with commas between them
+abbrev pub shown_report : Report → List ℕ
+shown_report r = decimal r.number ++ (comma ∷ (decimal r.line ++ (comma ∷ decimal r.field)))

@@ -1,12 +1,12 @@
 // What a line of a trace asks for. Reads and writes touch their sectors alike.
 
-#[derive(Clone, Copy)]
+#[derive(Clone, Copy, PartialEq, Eq, Debug)]
 pub enum Opcode {
     Read,
     Write,
 }
 
-#[derive(Clone, Copy)]
+#[derive(Clone, Copy, PartialEq, Eq, Debug)]
 pub struct Access {
     pub asu: u8,
     pub lba: u32,

@@ -8,24 +8,24 @@ use base::Refusal;
 
 mod reports;
 
-// The five fields of a line, in their order.
+// The five fields of a line, in their order, and their numbers in a report.
 #[derive(Clone, Copy, PartialEq, Eq, Debug)]
 pub enum Field {
-    Asu,
-    Lba,
-    Size,
-    Opcode,
-    TimeStamp,
+    Asu = 1,
+    Lba = 2,
+    Size = 3,
+    Opcode = 4,
+    TimeStamp = 5,
 }
 
-#[derive(Clone, Copy)]
+#[derive(Clone, Copy, PartialEq, Eq, Debug)]
 pub struct FieldFault {
     pub line: u32,
     pub field: Field,
     pub refusal: Refusal,
 }
 
-#[derive(Clone, Copy)]
+#[derive(Clone, Copy, PartialEq, Eq, Debug)]
 pub enum LineFault {
     Field(FieldFault),
     // The line has other than five fields.
@@ -34,7 +34,7 @@ pub enum LineFault {
     TooManyTouches { line: u32 },
 }
 
-#[derive(Clone, Copy)]
+#[derive(Clone, Copy, PartialEq, Eq, Debug)]
 pub enum ReplayFault {
     Line(LineFault),
     // A refusal that no line is at fault for.

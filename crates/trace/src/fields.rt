@@ -1,9 +1,9 @@
-// Reading the fields of a line.
+// The five fields of a line, and what they say.
 ghost use Rattle.std.specs.Prelude.{◌≡◌, ◌≤◌};
 ghost use Rattle.trace.specs.Numerals.{numeral};
-ghost use Rattle.trace.specs.Accesses.{number_in, sectors_in, opcode_in, stamp_in, time_stamp};
+ghost use Rattle.trace.specs.Accesses.{number_in, sectors_in, opcode_in, stamp_in, time_stamp, fault_at, access_in};
 
-use crate::access::Opcode;
+use crate::access::{Access, Opcode};
 use crate::fault::{Field, FieldFault};
 use crate::splits::split_once;
 use base::Refusal;
@@ -15,6 +15,110 @@ const FRACTION_DIGITS: usize = 9;
 const SECTOR_BYTES: u64 = 512;
 
 const MAX_BYTES: u64 = 65_536;
+
+// The fields' texts are parts of the trace, and `line` is the number of their line.
+#[derive(Clone, Copy)]
+pub struct Fields<'a> {
+    pub line: u32,
+    pub asu: &'a [u8],
+    pub lba: &'a [u8],
+    pub size: &'a [u8],
+    pub opcode: &'a [u8],
+    pub stamp: &'a [u8],
+}
+
+impl Fields<'_> {
+    // Judges the fields from the left to the right, and last where the access ends.
+    pub fn access(&self) -> Result<Access, FieldFault>
+        ensures { result ≡ access_in self.now.line self.now.asu.now self.now.lba.now self.now.size.now
+            self.now.opcode.now self.now.stamp.now }
+    {
+        let asu = self.number(Field::Asu, self.asu, u8::MAX as u32)? as u8;
+        let lba = self.number(Field::Lba, self.lba, u32::MAX)?;
+        let sectors = self.sectors()?;
+        let opcode = self.opcode()?;
+        self.check_time_stamp()?;
+        if lba.checked_add(sectors - 1).is_none() {
+            return Err(self.fault(Field::Lba, Refusal::PastLastSector));
+        }
+        Ok(Access {
+            asu,
+            lba,
+            sectors,
+            opcode,
+        })
+    }
+
+    // The number in a field's text, up to a greatest one.
+    fn number(&self, field: Field, text: &[u8], greatest: u32) -> Result<u32, FieldFault>
+        ensures { result ≡ number_in self.now.line field greatest text.now }
+    {
+        match read_digits(text, NUMBER_DIGITS) {
+            Some(n) if n <= greatest as u64 => Ok(n as u32),
+            _ => Err(self.fault(field, Refusal::NotANumber)),
+        }
+    }
+
+    // The number of sectors that the size in bytes asks for.
+    fn sectors(&self) -> Result<u32, FieldFault>
+        ensures { result ≡ sectors_in self.now.line self.now.size.now }
+    {
+        let Some(size) = read_digits(self.size, NUMBER_DIGITS) else {
+            return Err(self.fault(Field::Size, Refusal::NotANumber));
+        };
+        if (SECTOR_BYTES..=MAX_BYTES).contains(&size) && size % SECTOR_BYTES == 0 {
+            Ok((size / SECTOR_BYTES) as u32)
+        } else {
+            Err(self.fault(Field::Size, Refusal::BadSize))
+        }
+    }
+
+    fn opcode(&self) -> Result<Opcode, FieldFault>
+        ensures { result ≡ opcode_in self.now.line self.now.opcode.now }
+    {
+        let fault = self.fault(Field::Opcode, Refusal::BadOpcode);
+        let [b] = self.opcode else {
+            return Err(fault);
+        };
+        match char::from(*b) {
+            'R' | 'r' => Ok(Opcode::Read),
+            'W' | 'w' => Ok(Opcode::Write),
+            _ => Err(fault),
+        }
+    }
+
+    fn check_time_stamp(&self) -> Result<(), FieldFault>
+        ensures { result ≡ stamp_in self.now.line self.now.stamp.now }
+    {
+        if is_time_stamp(self.stamp) {
+            Ok(())
+        } else {
+            Err(self.fault(Field::TimeStamp, Refusal::BadTimeStamp))
+        }
+    }
+
+    fn fault(&self, field: Field, refusal: Refusal) -> FieldFault
+        ensures { result ≡ fault_at self.now.line field refusal }
+    {
+        FieldFault {
+            line: self.line,
+            field,
+            refusal,
+        }
+    }
+}
+
+fn is_time_stamp(text: &[u8]) -> bool
+    ensures { result ≡ time_stamp text.now }
+{
+    match split_once(text, b'.') {
+        Some((whole, fraction)) => {
+            read_digits(whole, NUMBER_DIGITS).is_some()
+                && read_digits(fraction, FRACTION_DIGITS).is_some()
+        }
+        None => read_digits(text, NUMBER_DIGITS).is_some(),
+    }
+}
 
 // The number that one to `most` decimal digits write.
 fn read_digits(text: &[u8], most: usize) -> Option<u64>
@@ -32,98 +136,4 @@ fn read_digits(text: &[u8], most: usize) -> Option<u64>
         value = value * 10 + (*b - b'0') as u64;
     }
     Some(value)
-}
-
-// The number in a field, up to a greatest one.
-fn read_number(text: &[u8], greatest: u64, line: u32, field: Field) -> Result<u64, FieldFault>
-    ensures { result ≡ number_in line field greatest text.now }
-{
-    match read_digits(text, NUMBER_DIGITS) {
-        Some(n) if n <= greatest => Ok(n),
-        _ => Err(FieldFault {
-            line,
-            field,
-            refusal: Refusal::NotANumber,
-        }),
-    }
-}
-
-pub fn read_asu(text: &[u8], line: u32) -> Result<u8, FieldFault>
-    ensures { result ≡ number_in line Field.Asu 255 text.now }
-{
-    let n = read_number(text, u8::MAX as u64, line, Field::Asu)?;
-    Ok(n as u8)
-}
-
-pub fn read_lba(text: &[u8], line: u32) -> Result<u32, FieldFault>
-    ensures { result ≡ number_in line Field.Lba 4294967295 text.now }
-{
-    let n = read_number(text, u32::MAX as u64, line, Field::Lba)?;
-    Ok(n as u32)
-}
-
-// The number of sectors that a size in bytes asks for.
-pub fn read_sectors(text: &[u8], line: u32) -> Result<u32, FieldFault>
-    ensures { result ≡ sectors_in line text.now }
-{
-    let field = Field::Size;
-    let Some(size) = read_digits(text, NUMBER_DIGITS) else {
-        return Err(FieldFault {
-            line,
-            field,
-            refusal: Refusal::NotANumber,
-        });
-    };
-    if size < SECTOR_BYTES || size > MAX_BYTES || size % SECTOR_BYTES != 0 {
-        return Err(FieldFault {
-            line,
-            field,
-            refusal: Refusal::BadSize,
-        });
-    }
-    Ok((size / SECTOR_BYTES) as u32)
-}
-
-pub fn read_opcode(text: &[u8], line: u32) -> Result<Opcode, FieldFault>
-    ensures { result ≡ opcode_in line text.now }
-{
-    let fault = FieldFault {
-        line,
-        field: Field::Opcode,
-        refusal: Refusal::BadOpcode,
-    };
-    let [b] = text else {
-        return Err(fault);
-    };
-    match char::from(*b) {
-        'R' | 'r' => Ok(Opcode::Read),
-        'W' | 'w' => Ok(Opcode::Write),
-        _ => Err(fault),
-    }
-}
-
-fn is_time_stamp(text: &[u8]) -> bool
-    ensures { result ≡ time_stamp text.now }
-{
-    match split_once(text, b'.') {
-        Some((whole, fraction)) => {
-            read_digits(whole, NUMBER_DIGITS).is_some()
-                && read_digits(fraction, FRACTION_DIGITS).is_some()
-        }
-        None => read_digits(text, NUMBER_DIGITS).is_some(),
-    }
-}
-
-pub fn check_time_stamp(text: &[u8], line: u32) -> Result<(), FieldFault>
-    ensures { result ≡ stamp_in line text.now }
-{
-    if is_time_stamp(text) {
-        Ok(())
-    } else {
-        Err(FieldFault {
-            line,
-            field: Field::TimeStamp,
-            refusal: Refusal::BadTimeStamp,
-        })
-    }
 }

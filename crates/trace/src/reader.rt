@@ -5,7 +5,7 @@ mod calls;
 
 // `place` is where the next line begins, and `line` how many lines were handed out: no more than the bytes before
 // `place`, so the count always fits.
-#[derive(Clone, Copy)]
+#[derive(Drop)]
 pub struct TraceReader<'a> {
     text: &'a [u8],
     place: usize,

@@ -6,10 +6,6 @@ ghost use Rattle.trace.specs.Splits.{Lacks, Cut};
 pub fn split_once(text: &[u8], mark: u8) -> Option<(&[u8], &[u8])>
     ensures { MatchOption result (Lacks mark text.now) (λ p. Cut mark text.now p.0.now p.1.now) }
 {
-    for (i, b) in text.iter().enumerate() {
-        if *b == mark {
-            return Some((&text[0..i], &text[i + 1..]));
-        }
-    }
-    None
+    let at = text.iter().position(|b| *b == mark)?;
+    Some((&text[..at], &text[at + 1..]))
 }

@@ -1,5 +1,5 @@
 // A whole trace: its lines are judged first, and only then are keys written.
-ghost use Rattle.std.specs.Prelude.{◌≡◌, ◌+◌, ◌^◌, ◌≤◌, true, map, length, take, drop, is_ok};
+ghost use Rattle.std.specs.Prelude.{◌≡◌, ◌+◌, ◌^◌, ◌≤◌, true, map, length, is_ok};
 ghost use Rattle.base.specs.Keys.{volume_code};
 ghost use Rattle.trace.specs.Splits.{lines};
 ghost use Rattle.trace.specs.Touches.{touches, judged_lines, judged, counted, touches_in, Filled, Written};
@@ -21,20 +21,13 @@ pub fn read_trace(text: &[u8], keys: &mut [VolumeKey]) -> Result<usize, ReplayFa
     ensures keys { Written (judged text.now (length keys.old)) keys.old keys.new }
     ensures trace { Reads text.now result keys.old keys.new }
 {
-    let count = judge(text, keys.len())?;
+    let count = judge_trace(text, keys.len())?;
     write_keys(text, keys);
     Ok(count)
 }
 
-// How many touches a text has, judged for lists of so many places: what a caller asks that lends more lists than the keys.
+// How many touches a text has, judged for a list of so many places: what a caller asks that lends more lists than the keys.
 pub fn judge_trace(text: &[u8], places: usize) -> Result<usize, ReplayFault>
-    ensures { result ≡ counted (judged text.now places) }
-{
-    judge(text, places)
-}
-
-// Judges the text for a list of so many places, and answers how many touches it has.
-fn judge(text: &[u8], places: usize) -> Result<usize, ReplayFault>
     ensures { result ≡ counted (judged text.now places) }
 {
     if text.len() > MAX_TEXT_BYTES {
@@ -52,9 +45,8 @@ fn count_touches(text: &[u8]) -> Result<usize, LineFault>
     requires { length text.now ≤ 32768 }
     ensures { result ≡ counted (judged_lines 1 0 (lines text.now)) }
 {
-    let mut reader = TraceReader::new(text);
     let mut count = 0;
-    while let Some(line) = reader.next_line() {
+    for line in TraceReader::new(text) {
         let access = line.access()?;
         count += access.sectors as usize;
         if count > MAX_TOUCHES {
@@ -71,25 +63,24 @@ fn write_keys(text: &[u8], keys: &mut [VolumeKey])
     requires places { length (touches_in text.now) ≤ length keys.old }
     ensures { Filled (touches_in text.now) keys.old keys.new }
 {
-    let mut reader = TraceReader::new(text);
     let mut count = 0;
-    while let Some(line) = reader.next_line() {
+    for line in TraceReader::new(text) {
         // Every line was accepted before, so there is an access.
         let access = line.access().unwrap();
-        write_touches(access, keys, count);
-        count += access.sectors as usize;
+        let next = count + access.sectors as usize;
+        write_touches(access, &mut keys[count..next]);
+        count = next;
     }
 }
 
-// Writes the keys of one line's touches, from a place on.
-fn write_touches(access: Access, keys: &mut [VolumeKey], place: usize)
-    requires places { place + access.sectors ≤ length keys.old }
+// Writes the keys of one line's touches, one into each place.
+#[tactic(auto, using(crate::proofs::Sectors::codes_more))]
+fn write_touches(access: Access, places: &mut [VolumeKey])
+    requires places { length places.old ≡ access.sectors }
     requires last { access.lba + access.sectors ≤ 2 ^ 32 }
-    ensures before { take place keys.new ≡ take place keys.old }
-    ensures touched { map volume_code (take access.sectors (drop place keys.new)) ≡ touches access }
-    ensures behind { drop (place + access.sectors) keys.new ≡ drop (place + access.sectors) keys.old }
+    ensures { map volume_code places.new ≡ touches access }
 {
-    for i in 0..access.sectors {
-        keys[place + i as usize] = VolumeKey::new(access.asu, access.lba + i);
+    for (i, key) in places.iter_mut().enumerate() {
+        *key = VolumeKey::new(access.asu, access.lba + i as u32);
     }
 }

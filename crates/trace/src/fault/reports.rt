@@ -1,21 +1,16 @@
 // The number, line and field under which a fault is reported.
-ghost use Rattle.std.specs.Prelude.{◌≡◌};
-ghost use Rattle.trace.specs.Faults.{field_number, field_report, line_report, reported};
+ghost use Rattle.std.specs.Prelude.{◌≡◌, Some};
+ghost use Rattle.trace.specs.Faults.{field_number, field_report, line_report, reported, shown_report};
 
 use super::{Field, FieldFault, LineFault, ReplayFault, Report};
 use base::Refusal;
+use std::fmt;
 
 impl Field {
     pub fn number(self) -> u8
         ensures { result ≡ field_number self }
     {
-        match self {
-            Field::Asu => 1,
-            Field::Lba => 2,
-            Field::Size => 3,
-            Field::Opcode => 4,
-            Field::TimeStamp => 5,
-        }
+        self as u8
     }
 }
 
@@ -63,5 +58,14 @@ impl ReplayFault {
                 field: 0,
             },
         }
+    }
+}
+
+// A report is printed as its three numbers, with commas between them.
+impl fmt::Display for Report {
+    ghost output = { λ report. Some (shown_report report) };
+
+    fn fmt<W: fmt::Write>(&self, f: &mut fmt::Formatter<W>) -> fmt::Result {
+        write!(f, "{},{},{}", self.number, self.line, self.field)
     }
 }

@@ -1,5 +1,6 @@
 // Handing out one line after another.
 ghost use Rattle.std.specs.Prelude.{◌≡◌, ◌<◌, ◌≤◌, [], ◌∷◌, length, drop, MatchOption};
+ghost use Rattle.std.specs.Iterator.{at_most};
 ghost use Rattle.trace.specs.Splits.{lines};
 ghost use Rattle.trace.specs.Reading.{unread, line_of, Advanced, Stripped};
 
@@ -19,11 +20,17 @@ impl<'a> TraceReader<'a> {
             line: 0,
         }
     }
+}
 
-    // The next line without its ending, unless the text is at its end.
-    pub fn next_line(&mut self) -> Option<Line<'a>>
-        ensures { MatchOption result (unread self.old ≡ []) (λ l. Advanced self.old self.new l.number l.text.now) }
-    {
+// The lines without their endings, until the text is at its end.
+impl<'a> Iterator for TraceReader<'a> {
+    type Item = Line<'a>;
+
+    ghost next_gives = { λ before line after. MatchOption line (unread before ≡ []) (λ l. Advanced before after l.number l.text.now) };
+
+    ghost remaining = { λ reader. at_most (length (unread reader)) };
+
+    fn next(&mut self) -> Option<Line<'a>> {
         let rest = &self.text[self.place..];
         if rest.is_empty() {
             return None;
@@ -31,12 +38,15 @@ impl<'a> TraceReader<'a> {
         let (text, len) = first_line(rest);
         self.place += len;
         self.line += 1;
-        let number = self.line;
-        Some(Line { number, text })
+        Some(Line {
+            number: self.line,
+            text,
+        })
     }
 }
 
 // The first line of a text that is not empty, without its ending, and how many bytes it has with it.
+#[tactic(auto, using(crate::proofs::Splitting::first_fed, crate::proofs::Splitting::first_last, crate::proofs::Splitting::stripped_is))]
 fn first_line(text: &[u8]) -> (&[u8], usize)
     requires { 0 < length text.now }
     ensures split { lines text.now ≡ result.0.now ∷ lines (drop result.1 text.now) }

@@ -1,4 +1,4 @@
-use Rattle.std.proofs.Common.{◌≡◌, ◌+◌, ◌≤◌, length}
+use Rattle.std.proofs.Common.{◌≡◌, ◌+◌, ◌≤◌}
 use Rattle.trace.specs.Splits.{lines}
 use Rattle.trace.specs.Reading.{unread, line_of}
 use Rattle.trace.specs.Touches.{judged_lines, counted}
@@ -7,7 +7,4 @@ use Rattle.trace.proofs.touches.count_touches.Given as goal
 
 abbrev pub invariant-loop-line : goal.invariant-loop-line
 invariant-loop-line l =
-    (added l.count (judged_lines (line_of l.reader + 1) l.count (lines (unread l.reader))) ≡ counted (judged_lines 1 0 (lines l.text))) × (l.count ≤ 4096)
-
-abbrev pub decreases-loop-line : goal.decreases-loop-line
-decreases-loop-line l = length (unread l.reader)
+    (added l.count (judged_lines (line_of l.line-iterator + 1) l.count (lines (unread l.line-iterator))) ≡ counted (judged_lines 1 0 (lines l.text))) × (l.count ≤ 4096)

@@ -1,52 +1,27 @@
 -- Each comma is one field more.
-use Rattle.std.proofs.Common.{◌∷◌, ap, ◌∙◌, arith}
-use Rattle.trace.proofs.Splitting.{parts_none, parts_at, parts_some, length_none, length_at}
+use Rattle.std.proofs.Common.{refl, arith}
+use Rattle.trace.proofs.Splitting.{parts_none, one_part, two_parts, parts_more, parts_next}
 use Rattle.trace.proofs.line.Line.split.Goals as goal
 
 pub returns-in_err-asu : goal.returns-in_err-asu
-returns-in_err-asu c =
-    let none = length_none 44 c.args.self.now.text.now c.in_err-asu.ensures in
-    rw c.from_residual.ensures (λ e. omega arith)
+returns-in_err-asu c = rw c.from_residual.ensures (one_part 44 _ 5 (omega arith) c.in_err-asu.ensures)
 
 pub returns-in_err-lba : goal.returns-in_err-lba
 returns-in_err-lba c =
-    let asu = length_at c.in_ok-asu.ensures in
-    let none = length_none 44 c.in_ok-asu.rest.now c.in_err-lba.ensures in
-    rw c.from_residual-in_err-lba.ensures (λ e. omega arith)
+    rw c.from_residual-in_err-lba.ensures (parts_more c.in_ok-asu.ensures 4 (one_part 44 _ 4 (omega arith) c.in_err-lba.ensures))
 
 pub returns-in_err-size : goal.returns-in_err-size
 returns-in_err-size c =
-    let asu = length_at c.in_ok-asu.ensures in
-    let lba = length_at c.in_ok-lba.ensures in
-    let none = length_none 44 c.in_ok-lba.rest.now c.in_err-size.ensures in
-    rw c.from_residual-in_err-size.ensures (λ e. omega arith)
+    rw c.from_residual-in_err-size.ensures (parts_more c.in_ok-asu.ensures 4 (parts_more c.in_ok-lba.ensures 3 (one_part 44 _ 3 (omega arith) c.in_err-size.ensures)))
 
 pub returns-in_err-opcode : goal.returns-in_err-opcode
 returns-in_err-opcode c =
-    let asu = length_at c.in_ok-asu.ensures in
-    let lba = length_at c.in_ok-lba.ensures in
-    let size = length_at c.in_ok-size.ensures in
-    let none = length_none 44 c.in_ok-size.rest.now c.in_err-opcode.ensures in
-    rw c.from_residual-in_err-opcode.ensures (λ e. omega arith)
+    rw c.from_residual-in_err-opcode.ensures (parts_more c.in_ok-asu.ensures 4 (parts_more c.in_ok-lba.ensures 3 (parts_more c.in_ok-size.ensures 2 (one_part 44 _ 2 (omega arith) c.in_err-opcode.ensures))))
 
 pub returns-in-Some : goal.returns-in-Some
 returns-in-Some c =
-    let asu = length_at c.in_ok-asu.ensures in
-    let lba = length_at c.in_ok-lba.ensures in
-    let size = length_at c.in_ok-size.ensures in
-    let opcode = length_at c.in_ok-opcode.ensures in
-    let stamp = length_at c.in-Some.ensures in
-    let more = parts_some 44 c.in-Some.field-0.1.now in
-    λ e. omega arith
+    parts_more c.in_ok-asu.ensures 4 (parts_more c.in_ok-lba.ensures 3 (parts_more c.in_ok-size.ensures 2 (parts_more c.in_ok-opcode.ensures 1 (two_parts c.in-Some.ensures))))
 
 pub returns-in-None : goal.returns-in-None
 returns-in-None c =
-    let asu = c.in_ok-asu.asu.now in
-    let lba = c.in_ok-lba.lba.now in
-    let size = c.in_ok-size.size.now in
-    let opcode = c.in_ok-opcode.opcode.now in
-    parts_at c.in_ok-asu.ensures
-    ∙ ap (λ ps. asu ∷ ps) (parts_at c.in_ok-lba.ensures
-    ∙ ap (λ ps. lba ∷ ps) (parts_at c.in_ok-size.ensures
-    ∙ ap (λ ps. size ∷ ps) (parts_at c.in_ok-opcode.ensures
-    ∙ ap (λ ps. opcode ∷ ps) (parts_none 44 c.in_ok-opcode.stamp.now c.in-None.ensures))))
+    (refl, parts_next c.in_ok-asu.ensures (parts_next c.in_ok-lba.ensures (parts_next c.in_ok-size.ensures (parts_next c.in_ok-opcode.ensures (parts_none 44 _ c.in-None.ensures)))))
