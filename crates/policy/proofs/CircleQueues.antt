@@ -1,14 +1,15 @@
 -- FIFO's hand goes through the queue. Assumes nothing.
-use Rattle.std.proofs.Common.{◌≡◌, ℕ, ◌+◌, ◌-◌, ◌<◌, ◌≤◌, List, [], ◌∷◌, ◌++◌, length, sym, ap, ◌∙◌, inl, inr, arith}
+use Rattle.std.proofs.Common.{◌≡◌, ℕ, ◌+◌, ◌-◌, ◌<◌, ◌≤◌, length, inl, inr, arith}
 use Rattle.std.proofs.lemmas.List.{append-nil}
 use Rattle.std.proofs.lemmas.Bool.{cases_lt, lt-ltb, le-ltb}
 use Rattle.base.specs.Lists.{without}
-use Rattle.policy.specs.Circle.{circle, onward, upward}
+use Rattle.base.specs.Rings.{onward}
+use Rattle.policy.specs.Circle.{circle, upward}
 use Rattle.policy.specs.Queue.{Queue, to_back, queue_place}
 use Rattle.policy.specs.declared.fifo.Fifo.{Fifo}
 use Rattle.policy.specs.Members.{others_miss, without_misses}
 use Rattle.policy.specs.Queues.{back_first}
-use Rattle.policy.specs.Circles.{behind, circle_here, circle_next, length-circle, upward_push, others}
+use Rattle.policy.specs.Circles.{circle_here, circle_next, length-circle, upward_push, others}
 
 -- the queue of the filled frames from the hand on
 abbrev pub queue_at : ℕ → ℕ → ℕ → Queue
@@ -30,16 +31,13 @@ module _ (size n : ℕ) where
 
   pub room_placed : queue_at size (n + 1) 0 ≡ to_back (queue_at size n 0) n
   room_placed =
-      let new : without n (circle n 0) ≡ circle n 0 = rw (circle_start n) (without_misses n (upward 0 n) (others_miss n (upward 0 n) (others n 0 n (inr (omega arith))))) in
-      let more : circle (n + 1) 0 ≡ circle n 0 ++ (n ∷ []) = circle_start (n + 1) ∙ upward_push n ∙ ap (λ o. o ++ (n ∷ [])) (sym (circle_start n)) in
-      ap (λ (o : List ℕ). record { size = size; order = o }) (more ∙ ap (λ o. o ++ (n ∷ [])) (sym new))
+      let out = others_miss n (upward 0 n) (others n 0 n (inr (omega arith))) in
+      let same : without n (circle n 0) ≡ upward 0 n = rw (circle_start n) (without_misses n (upward 0 n) out) in
+      rw (circle_start (n + 1), same, upward_push n)
 
   -- a place with all frames filled
   pub full_place : (h : ℕ) → h < n → size ≤ n → h ≡ queue_place (queue_at size n h)
   full_place h low l = rw (length-circle n h (omega arith), le-ltb n size l, circle_here n h low)
 
   pub full_placed : (h next : ℕ) → h < n → n ≡ size → next ≡ onward size h → queue_at size n next ≡ to_back (queue_at size n h) h
-  full_placed h next low full e =
-      let turned : circle n next ≡ without h (circle n h) ++ (h ∷ []) =
-      ap (circle n) (e ∙ ap (λ k. onward k h) (sym full)) ∙ circle_next n h low ∙ sym (back_first h (behind n h)) ∙ ap (λ o. without h o ++ (h ∷ [])) (sym (circle_here n h low)) in
-      ap (λ (o : List ℕ). record { size = size; order = o }) turned
+  full_placed h next low full e = rw (e, ← full, circle_next n h low, circle_here n h low, back_first)

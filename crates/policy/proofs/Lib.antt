@@ -1,5 +1,3 @@
-pub mod Arrays
-pub mod Walks
-pub mod ArrayQueues
 pub mod CircleQueues
-pub mod Dials
+pub mod ClockSweeps
+pub mod Orders

@@ -1,9 +1,5 @@
 -- Frames in a circle, as a hand that goes from the last frame to frame 0 reaches them. Assumes nothing.
-use Rattle.std.specs.Prelude.{ℕ, zero, suc, ◌+◌, ◌-◌, cond, List, [], ◌∷◌, ◌++◌, nat_lt}
-
--- the frame after one of size frames
-abbrev pub onward : ℕ → ℕ → ℕ
-onward size hand = cond (nat_lt (hand + 1) size) (hand + 1) 0
+use Rattle.std.specs.Prelude.{ℕ, zero, suc, ◌+◌, ◌-◌, List, [], ◌∷◌, ◌++◌}
 
 -- n numbers upward from a
 abbrev pub upward : ℕ → ℕ → List ℕ

@@ -5,7 +5,8 @@ use Rattle.std.specs.List.{AllByRecursion}
 use Rattle.std.proofs.lemmas.List.{append_assoc, append-nil, length-append}
 use Rattle.std.proofs.ByRecursion.{All-append, All-weaker}
 use Rattle.std.proofs.lemmas.Bool.{cases_lt, cond-true, cond-false, lt-ltb, le-ltb}
-use Rattle.policy.specs.Circle.{upward, onward, circle}
+use Rattle.base.specs.Rings.{onward}
+use Rattle.policy.specs.Circle.{upward, circle}
 
 pub length-upward : (a n : ℕ) → length (upward a n) ≡ n
 length-upward a zero = refl

@@ -1,9 +1,9 @@
 -- CLOCK: a hand that goes round over the frames, and a mark for each of them. Assumes nothing.
-use Rattle.std.specs.Prelude.{ℕ, zero, suc, ◌+◌, Bool, true, false, cond, List, take, replicate, nat_lt, slice_index_or, slice_set}
-use Rattle.policy.specs.Circle.{onward}
+use Rattle.std.specs.Prelude.{ℕ, zero, suc, ◌+◌, Bool, true, false, cond, List, replicate, nat_lt, slice_index_or, slice_set}
+use Rattle.arrayvec.specs.ArrayVec.{array_vec_len}
+use Rattle.base.specs.Rings.{onward}
 use Rattle.policy.specs.Machine.{Rules}
 use Rattle.policy.specs.declared.clock.Clock.{Clock}
-use Rattle.policy.specs.declared.clock.dial.Dial.{Dial}
 
 -- How many frames there are and how many are filled, where the hand stands, and the mark of each frame.
 pub record ClockState : Type 0 where
@@ -49,10 +49,6 @@ clock_rules = record {
   used = λ s f. record { size = s.size; filled = s.filled; hand = s.hand; marks = slice_set s.marks f true };
 }
 
--- the state that the code keeps
+-- the state that the code keeps, with a mark for each frame
 abbrev pub clock_state : Clock → ClockState
-clock_state c = record { size = c.size; filled = c.filled; hand = c.dial.hand; marks = take c.size c.dial.marks }
-
--- a clock of size frames, all filled, with this dial
-abbrev pub full_clock : ℕ → Dial → ClockState
-full_clock size d = record { size = size; filled = size; hand = d.hand; marks = take size d.marks }
+clock_state c = record { size = array_vec_len c.marks; filled = c.filled; hand = c.hand; marks = c.marks.items }

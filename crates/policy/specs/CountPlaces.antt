@@ -7,7 +7,8 @@ use native.Mathlib.Omega.{arith}
 use Rattle.std.proofs.lemmas.List.{length-set, get_or-set_same, get_or-set_other}
 use Rattle.std.proofs.lemmas.Bool.{cases_lt, cases_eq, cond-true, lt-ltb, le-ltb}
 use Rattle.policy.specs.Order.{Later}
-use Rattle.policy.specs.Circle.{onward, upward}
+use Rattle.base.specs.Rings.{onward}
+use Rattle.policy.specs.Circle.{upward}
 use Rattle.policy.specs.Counting.{CountState, count_rules, count_place, count_sweep}
 use Rattle.policy.specs.CountOrders.{CountValid, count_order}
 use Rattle.policy.specs.Classes.{Counted, classes, raised, foremost, hindmost}

@@ -1,6 +1,6 @@
 -- The family of CLOCK, with a count from 0 to a top for each frame; at top 1 the counts are marks. Assumes nothing.
 use Rattle.std.specs.Prelude.{ℕ, zero, suc, ◌+◌, ◌-◌, ◌*◌, cond, List, replicate, nat_lt, slice_index, slice_set}
-use Rattle.policy.specs.Circle.{onward}
+use Rattle.base.specs.Rings.{onward}
 use Rattle.policy.specs.Machine.{Rules}
 
 -- The same as for CLOCK, with the highest count and the count of each frame in place of the marks.

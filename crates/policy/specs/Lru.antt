@@ -1,5 +1,4 @@
 -- LRU: the frames in order of their latest place or use. Assumes nothing.
-use Rattle.std.specs.Prelude.{take}
 use Rattle.policy.specs.Machine.{Rules}
 use Rattle.policy.specs.Queue.{Queue, to_back, queue_rules}
 use Rattle.policy.specs.declared.lru.Lru.{Lru}
@@ -10,4 +9,4 @@ lru_rules = queue_rules to_back
 
 -- the queue that the code keeps
 abbrev pub lru_queue : Lru → Queue
-lru_queue l = record { size = l.size; order = take l.filled l.order }
+lru_queue l = record { size = l.size; order = l.order.items }

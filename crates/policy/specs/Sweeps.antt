@@ -7,7 +7,7 @@ use Rattle.std.proofs.lemmas.List.{length-set, get_or-set_same, get_or-set_other
 use Rattle.std.proofs.ByRecursion.{All-from_get_or, sum_by_le}
 use Rattle.std.proofs.lemmas.List.Sums.{sum_by-set, get_or-le-sum_by}
 use Rattle.std.proofs.lemmas.Bool.{cases_lt, cases_eq, cond-true, cond-false, lt-ltb, le-ltb}
-use Rattle.policy.specs.Circle.{onward}
+use Rattle.base.specs.Rings.{onward}
 use Rattle.policy.specs.Counting.{CountState, count_sweep}
 use Rattle.policy.specs.CountOrders.{CountValid, count_order}
 use Rattle.policy.specs.Classes.{Counted, classes, lowered}

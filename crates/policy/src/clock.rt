@@ -1,20 +1,19 @@
 // CLOCK: a place with all frames filled answers the first frame from the hand on whose mark is clear, and clears
 // the marks on the way there.
 ghost use Rattle.std.specs.Prelude.{◌<◌, ◌≤◌};
+ghost use Rattle.arrayvec.specs.ArrayVec.{array_vec_len};
 
-use dial::Dial;
+use arrayvec::ArrayVec;
 
 mod calls;
-mod dial;
 mod steps;
 
 #[derive(Drop)]
 pub struct Clock {
-    size: usize,
     filled: usize,
-    dial: Dial,
-    ghost some: { 1 ≤ size },
-    ghost most: { size ≤ 64 },
-    ghost fits: { filled ≤ size },
-    ghost within: { dial.hand < size },
+    hand: usize,
+    // The mark of each frame, so that there are as many as frames.
+    marks: ArrayVec<bool, 64>,
+    ghost fits: { filled ≤ array_vec_len marks },
+    ghost within: { hand < array_vec_len marks },
 }

@@ -1,7 +1,6 @@
 // Policies that choose the frame for a fetched key: the trait with its law, and LRU, FIFO and CLOCK.
 #![tactic(auto)]
 
-mod circle;
 mod clock;
 mod fifo;
 mod lru;

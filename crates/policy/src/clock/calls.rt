@@ -5,8 +5,8 @@ ghost use Rattle.policy.specs.Marks.{clock_ordered};
 ghost use Rattle.policy.specs.Shapes.{ordered_shape};
 
 use super::Clock;
-use super::dial::Dial;
 use crate::policy::Policy;
+use arrayvec::ArrayVec;
 use base::{Geometry, Refusal};
 
 impl Policy for Clock {
@@ -22,12 +22,14 @@ impl Policy for Clock {
 
     ghost shape = { ordered_shape clock_ordered };
 
+    #[tactic(auto, using(crate::proofs::ClockSweeps::first_marks))]
     fn new(_setting: (), geometry: &Geometry) -> Clock {
-        let size = geometry.frames();
+        let mut marks = ArrayVec::from([false; 64]);
+        marks.truncate(geometry.frames());
         Clock {
-            size,
             filled: 0,
-            dial: Dial::new(size),
+            hand: 0,
+            marks,
         }
     }
 

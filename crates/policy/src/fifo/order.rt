@@ -4,7 +4,7 @@ ghost use Rattle.policy.specs.Queue.{to_back, queue_place};
 ghost use Rattle.policy.specs.Fifo.{fifo_queue};
 
 use super::Fifo;
-use crate::circle::next_frame;
+use base::next_in_ring;
 
 impl Fifo {
     // How many frames the order has.
@@ -33,7 +33,7 @@ impl Fifo {
         ensures after { fifo_queue self.new ≡ to_back (fifo_queue self.old) result }
     {
         let frame = self.hand;
-        self.hand = next_frame(self.size, frame);
+        self.hand = next_in_ring(self.size, frame);
         frame
     }
 }

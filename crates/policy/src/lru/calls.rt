@@ -7,6 +7,7 @@ ghost use Rattle.policy.specs.Shapes.{ordered_shape};
 
 use super::Lru;
 use crate::policy::Policy;
+use arrayvec::ArrayVec;
 use base::{Geometry, Refusal};
 
 impl Policy for Lru {
@@ -25,25 +26,21 @@ impl Policy for Lru {
     fn new(_setting: (), geometry: &Geometry) -> Lru {
         Lru {
             size: geometry.frames(),
-            filled: 0,
-            order: [0; 64],
+            order: ArrayVec::new(),
         }
     }
 
     fn place(&mut self) -> usize {
-        if self.filled < self.size {
-            return self.fill_next();
+        if self.order.len() < self.size {
+            self.fill_next()
+        } else {
+            self.take_earliest()
         }
-        let earliest = self.earliest();
-        self.move_to_back(earliest);
-        earliest
     }
 
     fn use_frame(&mut self, frame: usize) -> Result<(), Refusal> {
-        if frame >= self.filled {
-            return Err(Refusal::FrameNotFilled);
-        }
-        self.move_to_back(frame);
+        let at = self.position_of(frame).ok_or(Refusal::FrameNotFilled)?;
+        self.move_to_back(at);
         Ok(())
     }
 }

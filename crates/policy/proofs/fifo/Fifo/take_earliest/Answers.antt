@@ -7,5 +7,5 @@ returns c =
     let p = c.args.self.now in
     record {
       value = full_place p.size p.filled p.hand (omega arith) c.requires;
-      after = full_placed p.size p.filled p.hand c.next_frame-self.result (omega arith) (omega arith) c.next_frame-self.ensures;
+      after = full_placed p.size p.filled p.hand c.next_in_ring-self.result (omega arith) (omega arith) c.next_in_ring-self.ensures;
     }

@@ -1,19 +1,18 @@
-use Rattle.std.proofs.Common.{◌≡◌, length, arith, rules}
-use Rattle.policy.proofs.ArrayQueues.{lru_lined, lined_next, room_place, room_placed}
+use Rattle.policy.specs.Queues.{next_misses}
+use Rattle.policy.proofs.Orders.{lru_lined, lined_next}
 use Rattle.policy.proofs.lru.Lru.fill_next.Goals as goal
 
-pub invariant_of-self : goal.invariant_of-self
-invariant_of-self c =
+pub invariant_of-self-clause-frames : goal.invariant_of-self-clause-frames
+invariant_of-self-clause-frames c =
     let l = c.args.self.now in
-    let long : length l.order ≡ 64 = search rules in
-    let h = lined_next l.filled l.order (omega arith) (lru_lined l) (omega arith) in
-    record { some = l.some; most = l.most; fits = omega arith; frames = h.frames; once = h.once }
+    rw (c.push.ensures.items, c.len-frame.ensures.value) (lined_next l.order.items (lru_lined l)).frames
 
-pub returns : goal.returns
-returns c =
+pub invariant_of-self-clause-once : goal.invariant_of-self-clause-once
+invariant_of-self-clause-once c =
     let l = c.args.self.now in
-    let long : length l.order ≡ 64 = search rules in
-    record {
-      value = room_place l.size l.filled l.order (omega arith) c.requires;
-      after = room_placed l.size l.filled l.order (omega arith) (lru_lined l) (omega arith);
-    }
+    rw (c.push.ensures.items, c.len-frame.ensures.value) (lined_next l.order.items (lru_lined l)).once
+
+pub returns-clause-after : goal.returns-clause-after
+returns-clause-after c =
+    let l = c.args.self.now in
+    rw (c.push.ensures.items, c.len-frame.ensures.value, next_misses l.order.items l.frames)

@@ -1,16 +1,20 @@
-use Rattle.std.proofs.Common.{◌≡◌, length, arith, rules}
-use Rattle.policy.proofs.ArrayQueues.{lru_lined, lined_has, lined_back}
+use Rattle.policy.proofs.Orders.{lru_lined, lined_moved, moved_is}
 use Rattle.policy.proofs.lru.Lru.move_to_back.Goals as goal
 
-pub shift_to_back-requires : goal.shift_to_back-requires
-shift_to_back-requires c =
+pub invariant_of-self-clause-frames : goal.invariant_of-self-clause-frames
+invariant_of-self-clause-frames c =
     let l = c.args.self.now in
-    let long : length l.order ≡ 64 = search rules in
-    record { fits = omega arith; once = l.once; has = lined_has l.filled l.order (omega arith) (lru_lined l) c.args.frame c.requires }
+    let moved = lined_moved l.order.items (lru_lined l) c.args.at c.remove-frame.result c.requires c.remove-frame.ensures.value in
+    rw (c.push.ensures.items, c.remove-frame.ensures.items) moved.frames
 
-pub invariant_of-self : goal.invariant_of-self
-invariant_of-self c =
+pub invariant_of-self-clause-once : goal.invariant_of-self-clause-once
+invariant_of-self-clause-once c =
     let l = c.args.self.now in
-    let long : length l.order ≡ 64 = search rules in
-    let h = lined_back l.filled l.order (omega arith) (lru_lined l) c.shift_to_back.new.order c.args.frame c.requires c.shift_to_back.ensures in
-    record { some = l.some; most = l.most; fits = l.fits; frames = h.frames; once = h.once }
+    let moved = lined_moved l.order.items (lru_lined l) c.args.at c.remove-frame.result c.requires c.remove-frame.ensures.value in
+    rw (c.push.ensures.items, c.remove-frame.ensures.items) moved.once
+
+pub returns-clause-after : goal.returns-clause-after
+returns-clause-after c =
+    let l = c.args.self.now in
+    let same = moved_is l.order.items (lru_lined l) c.args.at c.remove-frame.result c.requires c.remove-frame.ensures.value in
+    rw (c.push.ensures.items, c.remove-frame.ensures.items, same)
