@@ -1,3 +1,4 @@
 pub mod Served
 pub mod Images
 pub mod Turns
+pub mod Members

@@ -27,4 +27,4 @@ image_of image dead reads writes = record {
 }
 
 abbrev pub imaged : ImageDisk → Meaning
-imaged d = image_of d.image.now d.dead.now d.reads d.writes
+imaged d = image_of d.image.now d.dead.now d.tallies.reads d.tallies.writes

@@ -36,7 +36,7 @@ passed_write m sector buffer = record {
 
 module _ {A B : Type 0} (a : disks.Ghosts A) (b : disks.Ghosts B) where
   abbrev pub joined : JoinedDisk A B → Meaning
-  joined d = join_of (a.meaning d.first) (b.meaning d.second) d.reads d.writes
+  joined d = join_of (a.meaning d.first) (b.meaning d.second) d.tallies.reads d.tallies.writes
 
   -- a joined disk is sound where both its disks are
   pub record BothSound (d : JoinedDisk A B) : Type 0 where

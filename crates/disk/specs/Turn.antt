@@ -1,10 +1,16 @@
 -- One turn, as a disk alone takes it. Assumes nothing.
-use Rattle.std.specs.Prelude.{◌≡◌, ℕ, List, Some, vec_items}
+use Rattle.std.specs.Prelude.{◌≡◌, ℕ, List, Some, vec_items, codes}
 use Rattle.disk.specs.declared.turn.Request.{Request}
 use Rattle.disk.specs.declared.turn.Request.TheVariants.{Read, Write, Flush}
 use Rattle.disk.specs.declared.turn.Turn.{Turn}
 use Rattle.disk.specs.Meaning.{Meaning, after_read, buffer_read, after_write}
 use Rattle.disk.specs.Turns.{answer_turn}
+
+-- the word that a request is printed as
+abbrev pub shown_request : Request → List ℕ
+shown_request Read = codes "read"
+shown_request Write = codes "write"
+shown_request Flush = codes "flush"
 
 -- the disk and the buffer after a request
 abbrev pub after_request : Request → Meaning → ℕ → List ℕ → Meaning

@@ -1,25 +1,12 @@
 // A disk: what its calls do is said once, by its meaning, and each kind of disk is proved to do it.
-ghost use Rattle.std.specs.Prelude.{◌≡◌, ◌≤◌, length};
-ghost use Rattle.disk.specs.Meaning.{Meaning, Sized, Tallied, largest_tally, answer, after_read, buffer_read, after_write};
+ghost use Rattle.std.specs.Prelude.{◌≡◌, length};
+ghost use Rattle.disk.specs.Meaning.{Meaning, Sized, Tallied, answer, after_read, buffer_read, after_write};
 
+use crate::tallies::Tallies;
 use base::Refusal;
 
-// How many reads and writes a disk has served; each stays at its largest value.
-#[derive(Clone, Copy, PartialEq, Eq, Debug)]
-pub struct Tallies {
-    pub reads: u64,
-    pub writes: u64,
-}
-
-impl Tallies {
-    pub fn new(reads: u64, writes: u64) -> Tallies
-        ensures reads { result.reads ≡ reads }
-        ensures writes { result.writes ≡ writes }
-        ensures bounded { (reads ≤ largest_tally) × (writes ≤ largest_tally) }
-    {
-        Tallies { reads, writes }
-    }
-}
+// The bytes of a sector.
+pub const SECTOR_BYTES: usize = 512;
 
 pub trait Disk {
     ghost meaning: { Self → Meaning };

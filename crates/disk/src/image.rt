@@ -1,10 +1,11 @@
 // A disk over an image that the caller lends, with a list of the sectors that are dead.
+use crate::tallies::Tallies;
+
 mod calls;
 
 #[derive(Drop)]
 pub struct ImageDisk<'a> {
     image: &'a mut [u8],
     dead: &'a [u32],
-    reads: u64,
-    writes: u64,
+    tallies: Tallies,
 }

@@ -5,10 +5,12 @@ mod disk;
 mod image;
 mod joined;
 mod serve;
+mod tallies;
 mod turn;
 
-pub use disk::{Disk, Tallies};
+pub use disk::{Disk, SECTOR_BYTES};
 pub use image::ImageDisk;
 pub use joined::JoinedDisk;
 pub use serve::serve_turns;
+pub use tallies::Tallies;
 pub use turn::{Request, Turn};

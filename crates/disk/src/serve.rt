@@ -3,7 +3,8 @@ ghost use Rattle.std.specs.Prelude.{◌≡◌, [], length};
 ghost use Rattle.disk.specs.Turns.{AllAnswered, after_turns};
 ghost use Rattle.disk.specs.Turn.{Done, after_turn};
 
-use crate::disk::{Disk, Tallies};
+use crate::disk::Disk;
+use crate::tallies::Tallies;
 use crate::turn::{Request, Turn};
 
 // Takes one turn. A disk alone has nothing to flush.
@@ -14,17 +15,9 @@ fn take_turn<D: Disk>(disk: &mut D, turn: &mut Turn)
     ensures after { D.Disk.meaning disk.new ≡ after_turn (D.Disk.meaning disk.old) turn.old }
 {
     match turn.request {
-        Request::Read => {
-            let answer = disk.read(turn.sector, &mut turn.buffer);
-            turn.answer = Some(answer);
-        }
-        Request::Write => {
-            let answer = disk.write(turn.sector, &turn.buffer);
-            turn.answer = Some(answer);
-        }
-        Request::Flush => {
-            turn.answer = Some(Ok(()));
-        }
+        Request::Read => turn.answer = Some(disk.read(turn.sector, &mut turn.buffer)),
+        Request::Write => turn.answer = Some(disk.write(turn.sector, &turn.buffer)),
+        Request::Flush => turn.answer = Some(Ok(())),
     }
 }
 
@@ -37,8 +30,8 @@ pub fn serve_turns<D: Disk>(disk: &mut D, turns: &mut [Turn]) -> Tallies
     ensures reads { result.reads ≡ (D.Disk.meaning disk.new).reads }
     ensures writes { result.writes ≡ (D.Disk.meaning disk.new).writes }
 {
-    for i in 0..turns.len() {
-        take_turn(disk, &mut turns[i]);
+    for turn in turns.iter_mut() {
+        take_turn(disk, turn);
     }
     disk.tallies()
 }

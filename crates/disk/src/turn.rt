@@ -1,6 +1,8 @@
 // What a task asks of a disk: a turn with its own buffer, and the place for its answer.
 use base::Refusal;
 
+mod shown;
+
 #[derive(Clone, Copy, PartialEq, Eq, Debug)]
 pub enum Request {
     Read,

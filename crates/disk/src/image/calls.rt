@@ -5,20 +5,17 @@ ghost use Rattle.disk.specs.Meaning.{answer, serves, raised, largest_count, afte
 ghost use Rattle.disk.specs.Image.{imaged, image_of, image_written, sector_of};
 
 use super::ImageDisk;
-use crate::disk::{Disk, Tallies};
+use crate::disk::{Disk, SECTOR_BYTES};
+use crate::tallies::Tallies;
 use base::Refusal;
-
-const SECTOR: usize = 512;
-
-const LARGEST_COUNT: usize = 0xffff_ffff;
 
 // Copies a buffer into a whole sector of an image.
 fn copy_in(image: &mut [u8], sector: u32, buffer: &[u8])
     requires { (sector < length image.old / 512) × (length buffer.now ≡ 512) }
     ensures { image.new ≡ image_written image.old sector buffer.now }
 {
-    let at = sector as usize * SECTOR;
-    let part = &mut image[at..at + SECTOR];
+    let at = sector as usize * SECTOR_BYTES;
+    let part = &mut image[at..at + SECTOR_BYTES];
     part.copy_from_slice(buffer);
 }
 
@@ -30,33 +27,27 @@ impl<'a> ImageDisk<'a> {
         ImageDisk {
             image,
             dead,
-            reads: 0,
-            writes: 0,
+            tallies: Tallies::new(0, 0),
         }
     }
 
     fn sectors(&self) -> u32
         ensures { result ≡ (imaged self.now).count }
     {
-        let whole = self.image.len() / SECTOR;
-        whole.min(LARGEST_COUNT) as u32
+        let whole = self.image.len() / SECTOR_BYTES;
+        u32::try_from(whole).unwrap_or(u32::MAX)
     }
 
     fn is_dead(&self, sector: u32) -> bool
         ensures { result ≡ member sector self.now.dead.now }
     {
-        for number in self.dead {
-            if *number == sector {
-                return true;
-            }
-        }
-        false
+        self.dead.contains(&sector)
     }
 
     fn judge(&self, sector: u32, len: usize) -> Result<(), Refusal>
         ensures { result ≡ answer (imaged self.now) sector len }
     {
-        if len != SECTOR {
+        if len != SECTOR_BYTES {
             return Err(Refusal::BufferLength);
         }
         if sector >= self.sectors() {
@@ -73,8 +64,8 @@ impl<'a> ImageDisk<'a> {
         requires { (sector < length self.now.image.now / 512) × (length buffer.old ≡ 512) }
         ensures { buffer.new ≡ sector_of self.now.image.now sector }
     {
-        let at = sector as usize * SECTOR;
-        buffer.copy_from_slice(&self.image[at..at + SECTOR]);
+        let at = sector as usize * SECTOR_BYTES;
+        buffer.copy_from_slice(&self.image[at..at + SECTOR_BYTES]);
     }
 
     pub fn read_sector(&mut self, sector: u32, buffer: &mut [u8]) -> Result<(), Refusal>
@@ -85,7 +76,7 @@ impl<'a> ImageDisk<'a> {
     {
         self.judge(sector, buffer.len())?;
         self.copy_out(sector, buffer);
-        self.reads = self.reads.saturating_add(1);
+        self.tallies.count_read();
         Ok(())
     }
 
@@ -93,12 +84,14 @@ impl<'a> ImageDisk<'a> {
     pub fn write_sector(&mut self, sector: u32, buffer: &[u8]) -> Result<(), Refusal>
         ensures answers { result ≡ answer (imaged self.old) sector (length buffer.now) }
         ensures after { imaged self.new ≡ after_write (imaged self.old) sector buffer.now }
-        ensures image { self.new.image.now ≡ (if serves (imaged self.old) sector (length buffer.now) then image_written self.old.image.now sector buffer.now else self.old.image.now) }
+        ensures image { self.new.image.now ≡ (if serves (imaged self.old) sector (length buffer.now)
+            then image_written self.old.image.now sector buffer.now
+            else self.old.image.now) }
     {
         let len = buffer.len();
         self.judge(sector, len)?;
         copy_in(self.image, sector, buffer);
-        self.writes = self.writes.saturating_add(1);
+        self.tallies.count_write();
         Ok(())
     }
 }
@@ -114,7 +107,7 @@ impl Disk for ImageDisk<'_> {
     }
 
     fn tallies(&self) -> Tallies {
-        Tallies::new(self.reads, self.writes)
+        self.tallies.snapshot()
     }
 
     fn read(&mut self, sector: u32, buffer: &mut [u8]) -> Result<(), Refusal> {

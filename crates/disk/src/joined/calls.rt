@@ -1,10 +1,11 @@
 // What the joined disk does.
 ghost use Rattle.std.specs.Prelude.{◌≡◌, ℕ, ◌<◌, ◌≤◌, length};
-ghost use Rattle.disk.specs.Meaning.{Sized, answer, after_read, buffer_read, after_write};
+ghost use Rattle.disk.specs.Meaning.{Sized, answer, buffer_read};
 ghost use Rattle.disk.specs.Join.{joined, join_of, BothSound, judged, passed_write};
 
 use super::JoinedDisk;
-use crate::disk::{Disk, Tallies};
+use crate::disk::{Disk, SECTOR_BYTES};
+use crate::tallies::Tallies;
 use base::Refusal;
 
 impl<A: Disk, B: Disk> JoinedDisk<A, B> {
@@ -16,8 +17,7 @@ impl<A: Disk, B: Disk> JoinedDisk<A, B> {
         JoinedDisk {
             first,
             second,
-            reads: 0,
-            writes: 0,
+            tallies: Tallies::new(0, 0),
         }
     }
 
@@ -28,8 +28,7 @@ impl<A: Disk, B: Disk> JoinedDisk<A, B> {
         let JoinedDisk {
             first,
             second,
-            reads: _,
-            writes: _,
+            tallies: _,
         } = self;
         (first, second)
     }
@@ -48,7 +47,7 @@ impl<A: Disk, B: Disk> JoinedDisk<A, B> {
         requires { BothSound A.Disk B.Disk self.now }
         ensures { result ≡ judged (joined A.Disk B.Disk self.now) sector len }
     {
-        if len != 512 {
+        if len != SECTOR_BYTES {
             return Err(Refusal::BufferLength);
         }
         if sector >= self.sectors() {
@@ -87,31 +86,6 @@ impl<A: Disk, B: Disk> JoinedDisk<A, B> {
         }
         self.first.write(sector, buffer)
     }
-
-    pub fn read_sector(&mut self, sector: u32, buffer: &mut [u8]) -> Result<(), Refusal>
-        requires { BothSound A.Disk B.Disk self.old }
-        ensures kept { BothSound A.Disk B.Disk self.new }
-        ensures answers { result ≡ answer (joined A.Disk B.Disk self.old) sector (length buffer.old) }
-        ensures after { joined A.Disk B.Disk self.new ≡ after_read (joined A.Disk B.Disk self.old) sector buffer.old }
-        ensures fills { buffer.new ≡ buffer_read (joined A.Disk B.Disk self.old) sector buffer.old }
-    {
-        self.judge(sector, buffer.len())?;
-        self.pass_read(sector, buffer)?;
-        self.reads = self.reads.saturating_add(1);
-        Ok(())
-    }
-
-    pub fn write_sector(&mut self, sector: u32, buffer: &[u8]) -> Result<(), Refusal>
-        requires { BothSound A.Disk B.Disk self.old }
-        ensures kept { BothSound A.Disk B.Disk self.new }
-        ensures answers { result ≡ answer (joined A.Disk B.Disk self.old) sector (length buffer.now) }
-        ensures after { joined A.Disk B.Disk self.new ≡ after_write (joined A.Disk B.Disk self.old) sector buffer.now }
-    {
-        self.judge(sector, buffer.len())?;
-        self.pass_write(sector, buffer)?;
-        self.writes = self.writes.saturating_add(1);
-        Ok(())
-    }
 }
 
 impl<A: Disk, B: Disk> Disk for JoinedDisk<A, B> {
@@ -124,14 +98,20 @@ impl<A: Disk, B: Disk> Disk for JoinedDisk<A, B> {
     }
 
     fn tallies(&self) -> Tallies {
-        Tallies::new(self.reads, self.writes)
+        self.tallies.snapshot()
     }
 
     fn read(&mut self, sector: u32, buffer: &mut [u8]) -> Result<(), Refusal> {
-        self.read_sector(sector, buffer)
+        self.judge(sector, buffer.len())?;
+        self.pass_read(sector, buffer)?;
+        self.tallies.count_read();
+        Ok(())
     }
 
     fn write(&mut self, sector: u32, buffer: &[u8]) -> Result<(), Refusal> {
-        self.write_sector(sector, buffer)
+        self.judge(sector, buffer.len())?;
+        self.pass_write(sector, buffer)?;
+        self.tallies.count_write();
+        Ok(())
     }
 }

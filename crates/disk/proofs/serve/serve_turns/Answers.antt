@@ -3,23 +3,23 @@ use Rattle.disk.specs.Meaning.{Meaning}
 use Rattle.disk.proofs.Turns.{running_more, running_all, along, along_is}
 use Rattle.disk.proofs.serve.serve_turns.Goals as goal
 
-pub loop-i-init : goal.loop-i-init
-loop-i-init g c = (c.requires, record { answered = tt; rest = refl; long = refl; after = refl })
+pub loop-turn-init : goal.loop-turn-init
+loop-turn-init g c = (c.requires, record { answered = tt; rest = refl; long = refl; after = refl })
 
-pub loop-i-preserved : goal.loop-i-preserved
-loop-i-preserved g c =
-    let h : c.loop-i.i < length c.loop-i.turns = omega arith in (
+pub loop-turn-preserved : goal.loop-turn-preserved
+loop-turn-preserved g c =
+    let h : c.loop-turn.turn-index < length c.loop-turn.turns = omega arith in (
       c.take_turn.ensures.kept,
-      running_more _ _ _ _ _ c.loop-i.invariant.1 c.index-turns-i.result _ c.take_turn.new.turn _ h refl c.take_turn.ensures.done c.take_turn.ensures.after,
+      running_more _ _ _ _ _ c.loop-turn.invariant.1 c.turn-item.result _ c.take_turn.new.turn _ h refl c.take_turn.ensures.done c.take_turn.ensures.after,
     )
 
 pub returns : goal.returns
 returns g c =
-    let h : length c.args.turns.now ≤ c.loop-i.i = omega arith in
-    let q = running_all _ _ _ _ _ c.loop-i.invariant.1 h in
+    let h : length c.args.turns.now ≤ c.loop-turn.turn-index = omega arith in
+    let q = running_all _ _ _ _ _ c.loop-turn.invariant.1 h in
     let m = g.D.Disk.meaning c.args.disk.now in
     let us = c.args.turns.now in
     let b = c.tallies.ensures.bounded in
     let r : (along m us).reads < 2 ^ 64 = omega (arith, b.0, ap (λ (n : Meaning). n.reads) q.1) in
     let w : (along m us).writes < 2 ^ 64 = omega (arith, b.1, ap (λ (n : Meaning). n.writes) q.1) in
-    record { kept = c.loop-i.invariant.0; answers = q.0; after = q.1 ∙ along_is m us r w; reads = c.tallies.ensures.reads; writes = c.tallies.ensures.writes }
+    record { kept = c.loop-turn.invariant.0; answers = q.0; after = q.1 ∙ along_is m us r w; reads = c.tallies.ensures.reads; writes = c.tallies.ensures.writes }

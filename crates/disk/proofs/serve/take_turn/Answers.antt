@@ -9,15 +9,15 @@ returns-in-Read g c =
     let bs = c.deref_mut.result.now in
     let is = c.in-Read.is in
     let same = c.deref_mut.ensures.value in
-    let long : length c.read-answer.new.buffer ≡ vec_len t.buffer = search rules in
+    let long : length c.read.new.buffer ≡ vec_len t.buffer = search rules in
     record {
-      kept = c.read-answer.ensures.kept;
+      kept = c.read.ensures.kept;
       done = record {
         task = refl;
         request = refl;
         sector = refl;
-        bytes = read_bytes m t bs is same _ long c.read-answer.ensures.fills;
-        answers = ap Some (read_answers m t bs is same _ c.read-answer.ensures.answers);
+        bytes = read_bytes m t bs is same _ long c.read.ensures.fills;
+        answers = ap Some (read_answers m t bs is same _ c.read.ensures.answers);
       };
-      after = read_after m t bs is same _ c.read-answer.ensures.after;
+      after = read_after m t bs is same _ c.read.ensures.after;
     }
