@@ -1,12 +1,12 @@
 pub mod Members
-pub mod Held
+pub mod Holds
 pub mod Machines
 pub mod Bound
 pub mod Within
 pub mod Furthest
 pub mod Servings
 pub mod Fewest
-pub mod Lists
+pub mod Judged
 pub mod Replays
 pub mod Nexts
 pub mod Along

@@ -1,5 +1,5 @@
 -- The backward pass that finds next touches.
-use Rattle.std.proofs.Common.{◌≡◌, ℕ, ◌+◌, ◌<◌, ◌≤◌, true, false, cond, eqb, List, [], ◌∷◌, length, get_or, drop, set, Some, None, Option, sym, refl, ap, ◌∙◌, inl, inr, arith}
+use Rattle.std.proofs.Common.{◌≡◌, ℕ, ◌+◌, ◌<◌, ◌≤◌, true, false, cond, eqb, List, [], ◌∷◌, length, get_or, drop, set, Some, None, Option, unwrap_or, sym, refl, ap, ◌∙◌, inl, inr, arith}
 use Rattle.std.proofs.lemmas.List.{drop_more, drop_all, length-drop, get_or-set_same, get_or-set_other}
 use Rattle.std.proofs.lemmas.Bool.{cases_Bool, cases_eq, lt-ltb, or_right, cond_both}
 use Rattle.std.proofs.lemmas.Bool.Decides.{nat_tests}
@@ -60,15 +60,9 @@ module _ (xs next : List ℕ) (index : Map) (places j i : ℕ) (seen : Looking x
     ];
   })
 
-  -- what the index answers is the next touch
-  pub found_later : (p : ℕ) → index.at (get_or xs i 0) ≡ Some p → p ≡ i + 1 + place_in (get_or xs i 0) (drop (i + 1) xs)
-  found_later p e = let w : later xs (i + 1) (get_or xs i 0) ≡ Some p = sym (q.found (get_or xs i 0)) ∙ e in elim (cases_Bool (member (get_or xs i 0) (drop (i + 1) xs))) [
-    | inl m ↦ let z : Some (i + 1 + place_in (get_or xs i 0) (drop (i + 1) xs)) ≡ Some p = rw m at w in cc
-    | inr m ↦ absurd (let z : None ≡ Some p = rw m at w in let y : ◌≡◌ {A = ℕ} 0 1 = cc in omega arith)
-  ]
-
-  pub found_never : index.at (get_or xs i 0) ≡ None → length xs ≡ i + 1 + place_in (get_or xs i 0) (drop (i + 1) xs)
-  found_never e = let w : later xs (i + 1) (get_or xs i 0) ≡ None = sym (q.found (get_or xs i 0)) ∙ e in elim (cases_Bool (member (get_or xs i 0) (drop (i + 1) xs))) [
-    | inl m ↦ absurd (let z : Some (i + 1 + place_in (get_or xs i 0) (drop (i + 1) xs)) ≡ None = rw m at w in let y : ◌≡◌ {A = ℕ} 0 1 = cc in omega arith)
-    | inr m ↦ omega (arith, place_absent (get_or xs i 0) (drop (i + 1) xs) m, length-drop (i + 1) xs)
+  -- what the index answers is the next touch, or the list's end
+  pub found_next : unwrap_or (index.at (get_or xs i 0)) (length xs) ≡ i + 1 + place_in (get_or xs i 0) (drop (i + 1) xs)
+  found_next = elim (cases_Bool (member (get_or xs i 0) (drop (i + 1) xs))) [
+    | inl m ↦ rw (q.found (get_or xs i 0), m)
+    | inr m ↦ rw (q.found (get_or xs i 0), m) (omega (arith, place_absent (get_or xs i 0) (drop (i + 1) xs) m, length-drop (i + 1) xs))
   ]

@@ -9,7 +9,12 @@ use Rattle.policy.specs.Machine.{Rules, start, fetches}
 use Rattle.planning.specs.Minimum.{min_keys, min_fetches}
 use Rattle.planning.specs.Plan.{Places, enough, ceiling, plan_of, plan_answer, planned, forecasted}
 use Rattle.planning.specs.Replay.{most_touches, lists_answer}
-use Rattle.planning.proofs.Lists.{never, same_ok}
+use Rattle.planning.proofs.Judged.{never, same_ok}
+
+-- lists that are as long as others
+pub same_places : (s n h w s' n' h' w' : ℕ) → s' ≡ s → n' ≡ n → h' ≡ h → w' ≡ w →
+    ◌≡◌ {A = Places} (record { slots = s'; next = n'; held = h'; serving = w' }) (record { slots = s; next = n; held = h; serving = w })
+same_places s n h w s' n' h' w' es en eh ew = rw (es, en, eh, ew)
 
 -- what passes
 pub record Passed (n k h held : ℕ) (p : Places) : Type 0 where

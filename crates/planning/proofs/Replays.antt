@@ -68,6 +68,10 @@ module _ {Setting State : Type 0} (r : Rules Setting State) (m₀ : Machine Stat
     running : Running r k m
     running = running_touched shape m₀ runs (take i xs)
 
+    -- no more keys are held than there are frames
+    pub held_most : length m.keys ≤ k
+    held_most = omega (arith, running.filled, shape.within m.policy running.reached, running.frames)
+
     -- the machine after one touch more
     one_more : touched r m₀ (take (i + 1) xs) ≡ touch r m x
     one_more = ap (touched r m₀) (take_more xs i 0 low) ∙ touched_push r m₀ (take i xs) x

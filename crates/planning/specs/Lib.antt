@@ -5,3 +5,4 @@ pub mod Minimum
 pub mod Chosen
 pub mod Plan
 pub mod Bounds
+pub mod Lists

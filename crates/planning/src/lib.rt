@@ -3,12 +3,14 @@
 
 mod choose;
 mod forecast;
-mod hold;
+mod held;
+mod lists;
 mod minimum;
 mod next;
 mod plan;
 mod replay;
 
 pub use forecast::{Forecast, forecast_touches};
+pub use lists::Lists;
 pub use plan::{Plan, ceiling, plan_touches};
-pub use replay::replay as replay_keys;
+pub use replay::{MOST_TOUCHES, replay as replay_keys};

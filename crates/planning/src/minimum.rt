@@ -1,48 +1,44 @@
 // MIN's schedule: the frame that serves each touch, and how many touches are fetches.
-ghost use Rattle.std.specs.Prelude.{◌≡◌, ℕ, ◌<◌, ◌≤◌, [], ◌++◌, map, length, drop, Ok};
-ghost use Rattle.index.specs.Maps.{empty};
-ghost use Rattle.index.specs.Slots.{map_of, Sound};
-ghost use Rattle.planning.specs.Chosen.{NextTouch};
+ghost use Rattle.std.specs.Prelude.{◌≡◌, ◌≤◌, [], ◌++◌, map, length, drop};
+ghost use Rattle.index.specs.Slots.{map_of};
+ghost use Rattle.planning.specs.Chosen.{NextTouches};
+ghost use Rattle.planning.specs.Frames.{Unfilled};
 ghost use Rattle.planning.specs.Minimum.{min_serves, min_fetches};
 
-use crate::choose::choose_frame;
-use crate::hold::hold;
-use base::{Key, Refusal};
-use index::Index;
+use crate::held::HeldKeys;
+use base::Key;
 
-// `next` has for each touch where its key is touched again. For each filled frame `held` has the latest touch of its key.
+// `next` has for each touch where its key is touched again.
 pub fn serve_touches<K: Key>(
     keys: &[K],
-    frames: usize,
-    index: &mut Index<'_, K>,
+    size: usize,
+    frames: &mut HeldKeys<'_, K>,
     next: &[u32],
-    held: &mut [u32],
     serving: &mut [u8],
-) -> Result<u64, Refusal>
-    requires frames { (1 ≤ frames) × ((frames ≤ 64) × (frames ≤ length held.old)) }
-    requires sound { Sound K.Key.code K.Key.spread index.old }
-    requires index { map_of K.Key.code index.old ≡ empty (map_of K.Key.code index.old).places }
-    requires few { (length keys.now ≤ 4096) × ((length keys.now ≤ (map_of K.Key.code index.old).places) × ((length keys.now ≤ length next.now) × (length keys.now ≤ length serving.old))) }
-    requires next { (j : ℕ) → j < length keys.now → NextTouch (map K.Key.code keys.now) next.now j }
-    ensures answer { result ≡ Ok (min_fetches frames [] (map K.Key.code keys.now)) }
-    ensures serving { serving.new ≡ min_serves frames [] (map K.Key.code keys.now) ++ drop (length keys.now) serving.old }
+) -> u64
+    requires size { (1 ≤ size) × ((size ≤ 64) × (size ≤ length frames.old.held.now)) }
+    requires empty { Unfilled K.Key.code K.Key.spread frames.old }
+    requires few { (length keys.now ≤ 4096) × ((length keys.now ≤ (map_of K.Key.code frames.old.index).places)
+        × ((length keys.now ≤ length next.now) × (length keys.now ≤ length serving.old))) }
+    requires next { NextTouches K.Key.code keys.now next.now }
+    ensures answer { result ≡ min_fetches size [] (map K.Key.code keys.now) }
+    ensures serving { serving.new ≡ min_serves size [] (map K.Key.code keys.now) ++ drop (length keys.now) serving.old }
 {
     let mut fetches = 0;
-    let mut filled = 0;
     for (place, key) in keys.iter().enumerate() {
-        let frame = match index.find(key) {
+        let frame = match frames.frame_of(key) {
             Some(frame) => {
-                held[frame as usize] = place as u32;
-                frame as usize
+                frames.held[frame] = place as u32;
+                frame
             }
             None => {
-                let frame = choose_frame(next, held, filled, frames);
-                filled = hold(keys, index, held, frame, filled, place)?;
+                let frame = frames.choose(next, size);
+                frames.hold(keys, frame, place);
                 fetches += 1;
                 frame
             }
         };
         serving[place] = frame as u8;
     }
-    Ok(fetches)
+    fetches
 }

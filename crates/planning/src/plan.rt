@@ -1,7 +1,7 @@
 // What the planner gets: the fewest fetches on the smaller number of frames, and the ceiling made from them.
 mod calls;
 
-pub(crate) use calls::{Lent, check_plan};
+pub(crate) use calls::check_plan;
 pub use calls::{ceiling, plan_touches};
 
 #[derive(Clone, Copy, PartialEq, Eq, Debug)]

@@ -3,13 +3,13 @@ ghost use Rattle.std.specs.Prelude.{◌≡◌, ℕ, ◌≤◌, true, false, map,
 ghost use Rattle.base.specs.Geometries.{frames_of};
 ghost use Rattle.policy.specs.Machine.{fetches};
 ghost use Rattle.policy.specs.Shape.{Running};
-ghost use Rattle.index.specs.Maps.{empty};
-ghost use Rattle.index.specs.Slots.{map_of, Sound};
+ghost use Rattle.index.specs.Slots.{map_of};
+ghost use Rattle.planning.specs.Frames.{Unfilled};
 ghost use Rattle.planning.specs.Replay.{replayed, lists_answer, idle};
 
-use crate::hold::hold;
+use crate::held::HeldKeys;
 use base::{Geometry, Key, Refusal};
-use index::{Index, Slot};
+use index::Slot;
 use policy::Policy;
 
 // The most touches that a list may have.
@@ -29,32 +29,27 @@ fn check_lists(touches: usize, slots: usize, frames: usize, held: usize) -> Resu
 }
 
 // Touches the keys one after another, and counts the fetches.
-fn count_fetches<P: Policy, K: Key>(
-    policy: &mut P,
-    keys: &[K],
-    index: &mut Index<'_, K>,
-    held: &mut [u32],
-) -> Result<u64, Refusal>
+fn count_fetches<P: Policy, K: Key>(policy: &mut P, keys: &[K], frames: &mut HeldKeys<'_, K>) -> u64
     requires runs { Running P.Policy.rules (P.Policy.rules.frames (P.Policy.model policy.old)) (idle (P.Policy.model policy.old)) }
-    requires frames { (P.Policy.rules.frames (P.Policy.model policy.old) ≤ 64) × (P.Policy.rules.frames (P.Policy.model policy.old) ≤ length held.old) }
-    requires sound { Sound K.Key.code K.Key.spread index.old }
-    requires index { map_of K.Key.code index.old ≡ empty (map_of K.Key.code index.old).places }
-    requires few { (length keys.now ≤ 4096) × (length keys.now ≤ (map_of K.Key.code index.old).places) }
-    ensures { result ≡ Ok (fetches P.Policy.rules (idle (P.Policy.model policy.old)) (map K.Key.code keys.now)) }
+    requires places { (P.Policy.rules.frames (P.Policy.model policy.old) ≤ 64)
+        × (P.Policy.rules.frames (P.Policy.model policy.old) ≤ length frames.old.held.now) }
+    requires empty { Unfilled K.Key.code K.Key.spread frames.old }
+    requires few { (length keys.now ≤ 4096) × (length keys.now ≤ (map_of K.Key.code frames.old.index).places) }
+    ensures { result ≡ fetches P.Policy.rules (idle (P.Policy.model policy.old)) (map K.Key.code keys.now) }
 {
     let mut fetches = 0;
-    let mut filled = 0;
     for (place, key) in keys.iter().enumerate() {
-        match index.find(key) {
-            Some(frame) => policy.use_frame(frame as usize)?,
+        match frames.frame_of(key) {
+            // A frame that holds a key is filled, so the use is not refused.
+            Some(frame) => policy.use_frame(frame).unwrap(),
             None => {
                 let frame = policy.place();
-                filled = hold(keys, index, held, frame, filled, place)?;
+                frames.hold(keys, frame, place);
                 fetches += 1;
             }
         }
     }
-    Ok(fetches)
+    fetches
 }
 
 pub fn replay<P: Policy + Drop, K: Key>(
@@ -66,12 +61,13 @@ pub fn replay<P: Policy + Drop, K: Key>(
 ) -> Result<u64, Refusal>
 where
     P::Setting: Drop,
-    ensures answer { result ≡ replayed P.Policy.rules setting (frames_of geometry.now) (map K.Key.code keys.now) (length slots.old) (length held.old) }
+    ensures answer { result ≡ replayed P.Policy.rules setting (frames_of geometry.now) (map K.Key.code keys.now)
+        (length slots.old) (length held.old) }
     ensures slots { is_ok result ≡ false → slots.new ≡ slots.old }
     ensures held { is_ok result ≡ false → held.new ≡ held.old }
 {
     check_lists(keys.len(), slots.len(), geometry.frames(), held.len())?;
     let mut policy = P::new(setting, geometry);
-    let mut index = Index::new(slots);
-    count_fetches(&mut policy, keys, &mut index, held)
+    let mut frames = HeldKeys::new(slots, held);
+    Ok(count_fetches(&mut policy, keys, &mut frames))
 }

@@ -1,13 +1,12 @@
-use Rattle.std.proofs.Common.{◌≡◌, ◌+◌, ◌-◌, ◌<◌, ◌≤◌, map, length, get_or, drop, set, sym, refl, ap, ◌∙◌, subst, arith}
+use Rattle.std.proofs.Common.{◌≡◌, ◌+◌, ◌-◌, ◌<◌, ◌≤◌, map, length, get_or, drop, set, unwrap_or, sym, ap, ◌∙◌, subst, arith}
 use Rattle.std.proofs.lemmas.List.{length-map}
 use Rattle.std.proofs.lemmas.Bool.{cond-true}
 use Rattle.base.specs.Lists.{place_in}
 use Rattle.index.specs.Maps.{Map, after_put, put_answer}
 use Rattle.index.specs.Slots.{map_of, number_of, slots_of}
-use Rattle.planning.proofs.Lists.{never, code_at}
-use Rattle.planning.proofs.Nexts.{Looking, looking_none, looking_more, looking_accepted, found_later, found_never}
+use Rattle.planning.proofs.Judged.{code_at}
+use Rattle.planning.proofs.Nexts.{Looking, looking_none, looking_more, looking_accepted, found_next}
 use Rattle.planning.proofs.next.next_touches.Goals as goal
-use Rattle.planning.proofs.next.next_touches.Goals.{in-Some, in-None}
 
 pub loop-place-init : goal.loop-place-init
 loop-place-init g c =
@@ -27,18 +26,17 @@ loop-place-preserved g c =
     let fits : length xs ≤ length (slots_of c.args.index.now) = rw length-map (omega (arith, c.requires.few)) in
     let key = code_at code keys i c.index-keys-place.result low c.index-keys-place.is in
     let key' = code_at code keys i c.index-keys-place-in-loop-place.result low c.index-keys-place-in-loop-place.is in
-    let at = ap (number_of code (slots_of c.loop-place.index)) (sym key) in
-    let n : c.match-find.next ≡ i + 1 + place_in (get_or xs i 0) (drop (i + 1) xs) = elim c.match-find.branch [
-      | in-Some w ↦ w.next-is ∙ found_later xs _ _ _ _ i q before low' fits _ (at ∙ sym w.in-Some.ensures)
-      | in-None w ↦ w.next-is ∙ sym (length-map keys code) ∙ found_never xs _ _ _ _ i q before low' fits (at ∙ sym w.in-None.ensures)
-    ] in
+    let at = ap (number_of code (slots_of c.loop-place.index)) key in
+    let n : c.unwrap_or.result ≡ i + 1 + place_in (get_or xs i 0) (drop (i + 1) xs) =
+    c.unwrap_or.ensures ∙ ap (λ r. unwrap_or r (length keys)) (c.find.ensures ∙ at) ∙ ap (unwrap_or (number_of code (slots_of c.loop-place.index) (get_or xs i 0))) (sym (length-map keys code)) ∙
+    found_next xs _ _ _ _ i q before low' fits in
     let room : i < length c.loop-place.next = omega (arith, c.requires.few, c.loop-place.auto.next) in
-    let more = looking_more xs _ _ _ _ i q before low' fits c.match-find.next room n in
+    let more = looking_more xs _ _ _ _ i q before low' fits c.unwrap_or.result room n in
     let map' = c.put.ensures.map ∙ ap (λ x. after_put (map_of code c.loop-place.index) x i) key' in
-    (c.put.ensures.sound, subst (λ (m : Map). Looking xs (set c.loop-place.next i c.match-find.next) m (length (slots_of c.args.index.now)) i) (sym map') more)
+    (c.put.ensures.sound, subst (λ (m : Map). Looking xs (set c.loop-place.next i c.unwrap_or.result) m (length (slots_of c.args.index.now)) i) (sym map') more)
 
-pub returns-in_err-put : goal.returns-in_err-put
-returns-in_err-put g c =
+pub unwrap-requires : goal.unwrap-requires
+unwrap-requires g c =
     let code = g.K.Key.code in
     let keys = c.args.keys.now in
     let xs = map code keys in
@@ -49,7 +47,7 @@ returns-in_err-put g c =
     let fits : length xs ≤ length (slots_of c.args.index.now) = rw length-map (omega (arith, c.requires.few)) in
     let key' = code_at code keys i c.index-keys-place-in-loop-place.result low c.index-keys-place-in-loop-place.is in
     let taken = looking_accepted xs _ _ _ _ i c.loop-place.invariant.1 before low' fits in
-    absurd (never _ tt (sym c.in_err-put.was ∙ c.put.ensures.answer ∙ ap (put_answer (map_of code c.loop-place.index)) key' ∙ cond-true _ _ _ taken))
+    rw (c.put.ensures.answer ∙ ap (put_answer (map_of code c.loop-place.index)) key' ∙ cond-true _ _ _ taken)
 
 pub returns : goal.returns
-returns g c = record { answer = refl; next = λ j l. c.loop-place.invariant.1.nexts j (omega arith) (rw length-map l) }
+returns g c = λ j l. c.loop-place.invariant.1.nexts j (omega arith) (rw length-map l)

@@ -1,14 +1,15 @@
-use Rattle.std.proofs.Common.{◌≡◌, ℕ, true, List, map, length, is_ok, Ok, Err, sym, refl, ap, ◌∙◌, arith}
+use Rattle.std.proofs.Common.{◌≡◌, ℕ, List, map, length, Ok, Err, sym, refl, ap, ◌∙◌, arith}
 use Rattle.std.proofs.lemmas.List.{length-map}
 use Rattle.std.proofs.lemmas.Result.{err_from_is_err_and}
 use Rattle.std.proofs.lemmas.Bool.{true≢false}
 use Rattle.base.specs.Geometries.{frames_of}
 use Rattle.policy.specs.Machine.{fetches}
 use Rattle.policy.specs.Machines.{running_start}
-use Rattle.index.specs.Maps.{Map, empty}
+use Rattle.index.specs.Maps.{Map}
 use Rattle.index.specs.Slots.{map_of}
 use Rattle.planning.specs.Replay.{idle, lists_answer}
-use Rattle.planning.proofs.Lists.{lists_enough, replayed_refused, replayed_accepted}
+use Rattle.planning.proofs.Holds.{unfilled}
+use Rattle.planning.proofs.Judged.{lists_enough, replayed_refused, replayed_accepted}
 use Rattle.planning.proofs.replay.replay.Goals as goal
 
 -- the lists as they were judged, by the codes of the keys and the number of frames
@@ -34,14 +35,12 @@ count_fetches-requires g c =
     let k = frames_of c.args.geometry.now in
     let b = c.frames.ensures.bounded in
     let e = lists_enough _ _ _ _ c.in_ok-check_lists.ensures in
-    let m = map_of g.K.Key.code c.new-index.result in
-    let places : m.places ≡ length c.args.slots.now = ap (λ (n : Map). n.places) c.new-index.ensures.map in
+    let places : (map_of g.K.Key.code c.new-frames.result.index).places ≡ length c.args.slots.now = ap (λ (n : Map). n.places) c.new-frames.ensures.map in
     let frames : r.frames (g.P.Policy.model c.new-policy.result) ≡ k = ap r.frames c.new-policy.ensures ∙ g.met.P.Policy.shape.first_frames c.args.setting k b.some in
     record {
       runs = rw (frames, c.new-policy.ensures) (running_start g.met.P.Policy.shape b.some c.args.setting);
-      frames = (omega (arith, frames, b.most), omega (arith, frames, e.held_for, c.frames.ensures.value));
-      sound = c.new-index.ensures.sound;
-      index = c.new-index.ensures.map ∙ ap empty (sym places);
+      places = (omega (arith, frames, b.most), omega (arith, frames, e.held_for, c.frames.ensures.value, ap length c.new-frames.ensures.held));
+      empty = unfilled g.K.Key.code g.K.Key.spread _ _ c.new-frames.ensures.sound c.new-frames.ensures.map c.new-frames.ensures.filled;
       few = (e.few, omega (arith, places, e.slots_for));
     }
 
@@ -50,10 +49,9 @@ returns g c =
     let r = g.P.Policy.rules in
     let k = frames_of c.args.geometry.now in
     let xs = map g.K.Key.code c.args.keys.now in
-    let done = c.count_fetches.ensures ∙ ap (λ s. Ok (fetches r (idle s) xs)) c.new-policy.ensures in
-    let ok : is_ok c.count_fetches.result ≡ true = ap is_ok done in
     record {
-      answer = done ∙ sym (replayed_accepted r c.args.setting _ xs _ _ (c.in_ok-check_lists.ensures ∙ listed g.K.Key.code c.args.keys.now _ _ _ _ c.frames.ensures.value));
-      slots = λ e. absurd (true≢false (sym ok ∙ e));
-      held = λ e. absurd (true≢false (sym ok ∙ e));
+      answer = ap Ok (c.count_fetches.ensures ∙ ap (λ s. fetches r (idle s) xs) c.new-policy.ensures) ∙
+          sym (replayed_accepted r c.args.setting _ xs _ _ (c.in_ok-check_lists.ensures ∙ listed g.K.Key.code c.args.keys.now _ _ _ _ c.frames.ensures.value));
+      slots = λ e. absurd (true≢false e);
+      held = λ e. absurd (true≢false e);
     }

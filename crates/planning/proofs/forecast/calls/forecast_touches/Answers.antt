@@ -9,11 +9,12 @@ use Rattle.planning.specs.declared.forecast.Forecast.{Forecast}
 use Rattle.planning.specs.Bounds.{Optimal, Bounded}
 use Rattle.planning.specs.Minimum.{min_fetches}
 use Rattle.planning.specs.Schedules.{Demand}
+use Rattle.planning.specs.Lists.{places}
 use Rattle.planning.specs.Plan.{Places, plan_of, plan_answer}
 use Rattle.planning.specs.Replay.{replayed}
 use Rattle.planning.proofs.Ceilings.{competitive, under_ceiling}
-use Rattle.planning.proofs.Lists.{never, same_ok, replayed_accepted}
-use Rattle.planning.proofs.Plans.{Passed, plan_passed, planned_accepted, plan_passes, replay_passes, geometry_frames, geometry_accepted, forecast_refused, forecast_accepted}
+use Rattle.planning.proofs.Judged.{never, same_ok, replayed_accepted}
+use Rattle.planning.proofs.Plans.{same_places, Passed, plan_passed, planned_accepted, plan_passes, replay_passes, geometry_frames, geometry_accepted, forecast_refused, forecast_accepted}
 use Rattle.planning.proofs.forecast.calls.forecast_touches.Goals as goal
 
 -- a forecast from its parts
@@ -47,7 +48,7 @@ bounded r law c touches frames k h p f one fits ep ef o =
 
 pub returns-in_err-check_plan : goal.returns-in_err-check_plan
 returns-in_err-check_plan g c =
-    let lent : Places = record { slots = length c.args.slots.now; next = length c.args.next.now; held = length c.args.held.now; serving = length c.args.serving.now } in
+    let lent = places c.args.lists.now in
     let code = g.K.Key.code in
     let keys = c.args.keys.now in
     let touches = map code keys in
@@ -60,12 +61,14 @@ returns-in_err-check_plan g c =
       serving = sym (cond-false _ _ _ (ap is_ok p.1));
       bounded = IfOk-from_err _ _ c.from_residual.ensures.0;
       competitive = competitive g.P.Policy.rules g.met.P.Policy.conservative;
-      refused = λ _. (refl, refl, refl);
+      refused = λ _. record { slots = refl; next = refl; held = refl };
+      long = refl;
+      same = record { slots = refl; next = refl; held = refl; serving = refl };
     }
 
 pub returns-in_err-plan : goal.returns-in_err-plan
 returns-in_err-plan g c =
-    let lent : Places = record { slots = length c.args.slots.now; next = length c.args.next.now; held = length c.args.held.now; serving = length c.args.serving.now } in
+    let lent = places c.args.lists.now in
     let code = g.K.Key.code in
     let keys = c.args.keys.now in
     let touches = map code keys in
@@ -77,7 +80,7 @@ returns-in_err-plan g c =
 
 pub returns-in_err-geometry : goal.returns-in_err-geometry
 returns-in_err-geometry g c =
-    let lent : Places = record { slots = length c.args.slots.now; next = length c.args.next.now; held = length c.args.held.now; serving = length c.args.serving.now } in
+    let lent = places c.args.lists.now in
     let code = g.K.Key.code in
     let keys = c.args.keys.now in
     let touches = map code keys in
@@ -88,7 +91,7 @@ returns-in_err-geometry g c =
 
 pub returns-in_err-fetches : goal.returns-in_err-fetches
 returns-in_err-fetches g c =
-    let lent : Places = record { slots = length c.args.slots.now; next = length c.args.next.now; held = length c.args.held.now; serving = length c.args.serving.now } in
+    let lent = places c.args.lists.now in
     let code = g.K.Key.code in
     let keys = c.args.keys.now in
     let touches = map code keys in
@@ -97,22 +100,24 @@ returns-in_err-fetches g c =
     let p = passed_by code keys k h _ lent c.max.ensures c.in_ok-check_plan.ensures in
     let geometry = geometry_frames k _ _ p.frames.0 p.frames.1 c.new.ensures c.in_ok-geometry.was in
     let replayed' = c.replay.ensures.answer ∙
-    replay_by g.P.Policy.rules c.args.setting touches k h _ _ _ lent p geometry c.plan_touches.auto.slots c.plan_touches.auto.held in
+    replay_by g.P.Policy.rules c.args.setting touches k h _ _ _ lent p geometry (ap (λ (p : Places). p.slots) c.plan_touches.ensures.long) (ap (λ (p : Places). p.held) c.plan_touches.ensures.long) in
     absurd (never _ (fetches g.P.Policy.rules (start g.P.Policy.rules c.args.setting k) touches) (sym c.in_err-fetches.was ∙ replayed'))
 
 pub returns : goal.returns
 returns g c =
-    let lent : Places = record { slots = length c.args.slots.now; next = length c.args.next.now; held = length c.args.held.now; serving = length c.args.serving.now } in
+    let lent = places c.args.lists.now in
     let code = g.K.Key.code in
     let keys = c.args.keys.now in
     let touches = map code keys in
     let k = c.args.frames in
     let h = c.args.smaller in
+    let long = c.plan_touches.ensures.long in
+    let same = c.plan_touches.ensures.same in
     let p = passed_by code keys k h _ lent c.max.ensures c.in_ok-check_plan.ensures in
     let planned' = c.plan_touches.ensures.answer ∙ planned_accepted touches k h lent (plan_passes (length touches) k h lent p) in
     let geometry = geometry_frames k _ _ p.frames.0 p.frames.1 c.new.ensures c.in_ok-geometry.was in
     let replayed' = c.replay.ensures.answer ∙
-    replay_by g.P.Policy.rules c.args.setting touches k h _ _ _ lent p geometry c.plan_touches.auto.slots c.plan_touches.auto.held in
+    replay_by g.P.Policy.rules c.args.setting touches k h _ _ _ lent p geometry (ap (λ (p : Places). p.slots) c.plan_touches.ensures.long) (ap (λ (p : Places). p.held) c.plan_touches.ensures.long) in
     let plan = same_ok _ _ (sym c.in_ok-plan.was ∙ planned') in
     let count = same_ok _ _ (sym c.in_ok-fetches.was ∙ replayed') in
     let judged = c.in_ok-check_plan.ensures ∙ judged_by code keys k h _ lent c.max.ensures in
@@ -124,4 +129,7 @@ returns g c =
           (IfOk-at_ok _ c.in_ok-plan.was c.plan_touches.ensures.optimal);
       competitive = competitive g.P.Policy.rules g.met.P.Policy.conservative;
       refused = λ e. absurd (true≢false e);
+      same = record { slots = same.slots; next = same.next; held = same.held; serving = same.serving };
+      long = same_places _ _ _ _ _ _ _ _ (omega (arith, c.replay.auto.slots, ap (λ (p : Places). p.slots) long)) (ap (λ (p : Places). p.next) long)
+          (omega (arith, c.replay.auto.held, ap (λ (p : Places). p.held) long)) (ap (λ (p : Places). p.serving) long);
     }

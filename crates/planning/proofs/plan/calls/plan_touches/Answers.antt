@@ -5,11 +5,11 @@ use Rattle.std.proofs.lemmas.Bool.{true≢false, cond-false}
 use Rattle.planning.specs.Bounds.{Optimal}
 use Rattle.planning.specs.Minimum.{min_keys, min_serves}
 use Rattle.planning.specs.declared.plan.Plan.{Plan}
-use Rattle.planning.specs.Plan.{Places, ceiling, plan_answer}
+use Rattle.planning.specs.Lists.{places}
+use Rattle.planning.specs.Plan.{ceiling, plan_answer}
 use Rattle.planning.proofs.Ceilings.{min_optimal}
-use Rattle.planning.proofs.Lists.{same_ok}
 use Rattle.planning.proofs.Servings.{served}
-use Rattle.planning.proofs.Plans.{plan_passed, planned_refused, planned_accepted, min_most, ceiling_fits}
+use Rattle.planning.proofs.Plans.{same_places, plan_passed, planned_refused, planned_accepted, min_most, ceiling_fits}
 use Rattle.planning.proofs.plan.calls.plan_touches.Goals as goal
 
 -- a list of serving frames has one for each touch
@@ -23,7 +23,7 @@ plan_same c d e k h ec ed = rw (ec, ed)
 
 pub returns-in_err-check_plan : goal.returns-in_err-check_plan
 returns-in_err-check_plan g c =
-    let lent : Places = record { slots = length c.args.slots.now; next = length c.args.next.now; held = length c.args.held.now; serving = length c.args.serving.now } in
+    let lent = places c.args.lists.now in
     let touches = map g.K.Key.code c.args.keys.now in
     let k = c.args.frames in
     let h = c.args.smaller in
@@ -35,45 +35,46 @@ returns-in_err-check_plan g c =
       serving = sym (cond-false _ _ _ no-plan);
       optimal = IfOk-from_err _ _ c.from_residual.ensures.0;
       schedules = served;
-      refused = λ _. (refl, refl, refl);
+      refused = λ _. record { slots = refl; next = refl; held = refl };
+      long = refl;
+      same = record { slots = refl; next = refl; held = refl; serving = refl };
     }
 
-pub run_min-requires : goal.run_min-requires
-run_min-requires g c =
-    let lent : Places = record { slots = length c.args.slots.now; next = length c.args.next.now; held = length c.args.held.now; serving = length c.args.serving.now } in
-    let p = plan_passed (length c.args.keys.now) c.args.frames c.args.smaller c.args.smaller lent c.in_ok-check_plan.ensures in
+pub run_min-fetches-requires : goal.run_min-fetches-requires
+run_min-fetches-requires g c =
+    let p = plan_passed (length c.args.keys.now) c.args.frames c.args.smaller c.args.smaller (places c.args.lists.now) c.in_ok-check_plan.ensures in
     record {
       frames = (p.smaller.0, (omega (arith, p.smaller, p.frames), p.held_for));
       few = (p.few, (omega (arith, p.slots_for, c.find_next.auto.slots), (omega (arith, p.next_for, c.find_next.auto.next), p.serving_for)));
-      next = c.find_next.ensures.next;
+      next = c.find_next.ensures;
     }
 
 pub overflow_cast-ceiling : goal.overflow_cast-ceiling
 overflow_cast-ceiling g c =
-    let lent : Places = record { slots = length c.args.slots.now; next = length c.args.next.now; held = length c.args.held.now; serving = length c.args.serving.now } in
-    let p = plan_passed (length c.args.keys.now) c.args.frames c.args.smaller c.args.smaller lent c.in_ok-check_plan.ensures in
+    let p = plan_passed (length c.args.keys.now) c.args.frames c.args.smaller c.args.smaller (places c.args.lists.now) c.in_ok-check_plan.ensures in
     let touches = map g.K.Key.code c.args.keys.now in
-    let d = same_ok _ _ c.in_ok-fetches.ensures.answer in
-    let few : c.in_ok-fetches.fetches ≤ 4096 = omega (arith, d, min_most c.args.smaller [] touches, length-map c.args.keys.now g.K.Key.code, p.few) in
-    omega (arith, c.ceiling-ceiling.ensures, ceiling_fits c.args.frames c.args.smaller c.in_ok-fetches.fetches p.frames.1 few)
+    let few : c.run_min-fetches.result ≤ 4096 = omega (arith, c.run_min-fetches.ensures.answer, min_most c.args.smaller [] touches, length-map c.args.keys.now g.K.Key.code, p.few) in
+    omega (arith, c.ceiling-ceiling.ensures, ceiling_fits c.args.frames c.args.smaller c.run_min-fetches.result p.frames.1 few)
 
 pub returns : goal.returns
 returns g c =
-    let lent : Places = record { slots = length c.args.slots.now; next = length c.args.next.now; held = length c.args.held.now; serving = length c.args.serving.now } in
+    let lent = places c.args.lists.now in
     let keys = c.args.keys.now in
     let touches = map g.K.Key.code keys in
     let k = c.args.frames in
     let h = c.args.smaller in
     let p = plan_passed (length keys) k h h lent c.in_ok-check_plan.ensures in
-    let d = same_ok _ _ c.in_ok-fetches.ensures.answer in
+    let d = c.run_min-fetches.ensures.answer in
     let judged = c.in_ok-check_plan.ensures ∙ ap (λ n. plan_answer n k h h lent) (sym (length-map keys g.K.Key.code)) in
     let serves = min_serves h [] touches in
-    let front : take (length keys) c.run_min.new.serving ≡ serves =
-    ap (take (length keys)) c.run_min.ensures.serving ∙ take_at serves (drop (length keys) c.args.serving.now) (length keys) (serves_length h [] touches ∙ length-map keys g.K.Key.code) in
+    let front : take (length keys) c.run_min-fetches.new.serving ≡ serves =
+    ap (take (length keys)) c.run_min-fetches.ensures.serving ∙ take_at serves (drop (length keys) c.args.lists.now.serving.now) (length keys) (serves_length h [] touches ∙ length-map keys g.K.Key.code) in
     record {
       answer = ap Ok (plan_same _ _ _ k h c.ceiling-ceiling.ensures d) ∙ sym (planned_accepted touches k h lent judged);
-      serving = c.run_min.ensures.serving;
-      optimal = subst (λ (w : List ℕ). Optimal h touches w c.in_ok-fetches.fetches) (sym front) (subst (Optimal h touches serves) (sym d) (min_optimal h p.smaller.0 touches));
+      serving = c.run_min-fetches.ensures.serving;
+      optimal = subst (λ (w : List ℕ). Optimal h touches w c.run_min-fetches.result) (sym front) (subst (Optimal h touches serves) (sym d) (min_optimal h p.smaller.0 touches));
       schedules = served;
       refused = λ e. absurd (true≢false e);
+      same = record { slots = refl; next = refl; held = refl; serving = refl };
+      long = same_places _ _ _ _ _ _ _ _ (omega (arith, c.find_next.auto.slots, c.run_min-fetches.auto.slots)) c.find_next.auto.next c.run_min-fetches.auto.held c.run_min-fetches.auto.serving;
     }

@@ -1,13 +1,16 @@
 -- Which frame holds a key, once a frame holds another.
-use Rattle.std.proofs.Common.{◌≡◌, ℕ, zero, suc, ◌<◌, true, false, cond, eqb, ltb, List, [], ◌∷◌, ◌++◌, length, get_or, set, is_some, Some, None, Ok, Result, sym, refl, ap, ◌∙◌, inl, inr, arith}
+use Rattle.std.proofs.Common.{◌≡◌, ℕ, zero, suc, ◌<◌, ◌≤◌, true, false, cond, eqb, ltb, List, [], ◌∷◌, ◌++◌, map, length, get_or, take, set, is_some, Some, None, Ok, Result, sym, refl, ap, ◌∙◌, inl, inr, arith}
 use Rattle.base.specs.declared.refusal.Refusal.{Refusal}
 use Rattle.std.proofs.lemmas.Bool.Decides.{nat_tests}
 use Rattle.std.proofs.lemmas.Bool.{cases_Bool, cases_eq, cases_lt, lt-ltb, le-ltb, ne_eqb, or_right}
-use Rattle.std.proofs.lemmas.List.{length_push, length-set, get_or_push, get_or_append_left, get_or-set_same, get_or-set_other}
+use Rattle.std.proofs.lemmas.List.{ext_get_or, get_or-map, get_or-take, length-map, length-take-le, length_push, length-set, get_or_push, get_or_append_left, get_or-set_same, get_or-set_other}
 use Rattle.base.specs.Lists.{member, Apart}
 use Rattle.policy.specs.Machine.{put}
-use Rattle.index.specs.Maps.{Map, stored, after_remove, has, accepts, put_answer, after_put}
-use Rattle.planning.specs.Frames.{frame_of, Shows, Room, without_frame}
+use Rattle.index.specs.Slots.{map_of, Sound}
+use Rattle.planning.specs.declared.held.HeldKeys.{HeldKeys}
+use Rattle.index.specs.Maps.{Map, empty, stored, after_remove, has, accepts, put_answer, after_put}
+use Rattle.planning.specs.Frames.{keys_at, frame_of, Shows, Room, Unfilled, without_frame}
+use Rattle.planning.proofs.Judged.{code_at}
 use Rattle.planning.proofs.Members.{member_index}
 
 -- one frame more, with a new key
@@ -97,14 +100,17 @@ holds_new touches hs index keys f filled place q inside room = elim (cases_lt f 
 ]
 
 -- the same, as the calls of an index answer it
-pub holds_by_calls : (touches hs : List ℕ) (index out after : Map) (keys : List ℕ) (f filled place x : ℕ) (a : Result (Unit {0}) Refusal) →
-    out ≡ without_frame touches hs index f filled → after ≡ after_put out x f → a ≡ put_answer out x → x ≡ get_or touches place 0 →
-    place < length touches → f < length hs → Room touches hs index keys f filled place →
-    (a ≡ Ok tt) × Shows touches (set hs f place) after (put keys f (get_or touches place 0))
-holds_by_calls touches hs index out after keys f filled place x a eo ea er ex inside room q =
-    let h = holds_new touches hs index keys f filled place q inside room in (
-      er ∙ ap (λ m. put_answer m x) eo ∙ ap (put_answer (without_frame touches hs index f filled)) ex ∙ h.0,
-      let e : after ≡ after_put (without_frame touches hs index f filled) (get_or touches place 0) f = ea ∙ ap (λ m. after_put m x f) eo ∙ ap (λ y. after_put (without_frame touches hs index f filled) y f) ex in
+pub holds_by_calls : {K : Type 0} (code : K → ℕ) (keys : List K) (hs : List ℕ) (index out after : Map) (ks : List ℕ) (f filled place : ℕ) (key : K) (a : Result (Unit {0}) Refusal) →
+    out ≡ without_frame (map code keys) hs index f filled → after ≡ after_put out (code key) f → a ≡ put_answer out (code key) → key ≡ get_or keys place key →
+    place < length keys → f < length hs → Room (map code keys) hs index ks f filled place →
+    (a ≡ Ok tt) × Shows (map code keys) (set hs f place) after (put ks f (get_or (map code keys) place 0))
+holds_by_calls code keys hs index out after ks f filled place key a eo ea er ek inside room q =
+    let xs = map code keys in
+    let x = get_or xs place 0 in
+    let ex = code_at code keys place key inside ek in
+    let h = holds_new xs hs index ks f filled place q (rw length-map inside) room in (
+      er ∙ ap (λ m. put_answer m (code key)) eo ∙ ap (put_answer (without_frame xs hs index f filled)) ex ∙ h.0,
+      let e : after ≡ after_put (without_frame xs hs index f filled) x f = ea ∙ ap (λ m. after_put m (code key) f) eo ∙ ap (λ y. after_put (without_frame xs hs index f filled) y f) ex in
           rw e h.1,
     )
 
@@ -114,3 +120,23 @@ places_put index x f = elim (cases_Bool (accepts index x)) [ inl e ↦ rw e | in
 
 pub places_out : (touches hs : List ℕ) (index : Map) (f filled : ℕ) → (without_frame touches hs index f filled).places ≡ index.places
 places_out touches hs index f filled = elim (cases_Bool (ltb f filled)) [ inl e ↦ rw e | inr e ↦ rw e ]
+
+-- the held-key list has the keys that the index shows
+shown_keys : (touches hs : List ℕ) (index : Map) (keys : List ℕ) (filled : ℕ) → Shows touches hs index keys → filled ≡ length keys → length keys ≤ length hs → keys_at touches hs filled ≡ keys
+shown_keys touches hs index keys filled q e wide =
+    let long : length (take filled hs) ≡ length keys = length-take-le filled hs (omega arith) ∙ e in
+    ext_get_or 0 (keys_at touches hs filled) keys (length-map (take filled hs) (λ p. get_or touches p 0) ∙ long) (λ f l.
+    let low : f < length keys = omega (arith, length-map (take filled hs) (λ p. get_or touches p 0)) in
+    get_or-map (λ p. get_or touches p 0) (take filled hs) f 0 0 (omega arith) ∙ ap (λ p. get_or touches p 0) (get_or-take filled hs f 0 (omega arith)) ∙ q.holds f low)
+
+module _ (touches hs : List ℕ) (index : Map) (keys : List ℕ) (f filled place : ℕ) (q : Room touches hs index keys f filled place) (wide : length keys ≤ length hs) where
+  pub room_shown : Room touches hs index (keys_at touches hs filled) f filled place
+  room_shown = rw (shown_keys touches hs index keys filled q.shows q.counted wide) q
+
+  pub shows_shown : (hs' : List ℕ) (index' : Map) (x : ℕ) → Shows touches hs' index' (put (keys_at touches hs filled) f x) → Shows touches hs' index' (put keys f x)
+  shows_shown hs' index' x w = rw (shown_keys touches hs index keys filled q.shows q.counted wide) at w
+
+-- frames as they are made hold no key
+pub unfilled : {K : Type 0} (code spread : K → ℕ) (frames : HeldKeys K) (places : ℕ) → Sound code spread frames.index → map_of code frames.index ≡ empty places → frames.filled ≡ 0 →
+    Unfilled code spread frames
+unfilled code spread frames places s m z = record { sound = s; map = m ∙ ap empty (sym (ap (λ (n : Map). n.places) m)); none = z }
