@@ -1,12 +1,19 @@
 -- The rows of a sheet, and the texts that it is made of.
-use Rattle.std.proofs.Common.{◌≡◌, ℕ, zero, suc, ◌<◌, ◌≤◌, leb, List, length, get_or, Ok, Err, Result, sym, refl, ap, inl, inr, arith}
+use Rattle.std.proofs.Common.{◌≡◌, ℕ, zero, suc, ◌<◌, ◌≤◌, leb, List, length, get_or, true, is_ok, Ok, Err, Result, sym, refl, ap, ◌∙◌, inl, inr, arith}
 use Rattle.std.proofs.lemmas.Bool.{cases_Bool, leb-true, le-leb}
 use Rattle.trace.specs.declared.fault.LineFault.{LineFault}
 use Rattle.trace.specs.declared.fault.ReplayFault.{ReplayFault}
 use Rattle.trace.specs.Accesses.{and_then}
 use Rattle.trace.specs.Splits.{lines}
 use Rattle.trace.specs.Touches.{judged, judged_lines, in_replay, placed, counted}
-use Rattle.sheet.specs.Rows.{frame_counts}
+use Rattle.base.specs.Geometries.{built}
+use Rattle.base.specs.declared.geometry.Geometry.{Geometry}
+use Rattle.base.specs.declared.refusal.Refusal.{Refusal}
+use Rattle.planning.specs.Lists.{AsLong, SameLists}
+use Rattle.planning.specs.Plan.{Places}
+use Rattle.planning.specs.declared.lists.Lists.{Lists}
+use Rattle.planning.proofs.Plans.{geometry_accepted}
+use Rattle.sheet.specs.Rows.{frame_counts, Roomy}
 
 -- each number of frames makes a geometry
 pub counts_within : (i : ℕ) → i < 6 → (1 ≤ get_or frame_counts i 0) × (get_or frame_counts i 0 ≤ 64)
@@ -17,6 +24,23 @@ counts_within (suc (suc (suc zero))) l = (omega arith, omega arith)
 counts_within (suc (suc (suc (suc zero)))) l = (omega arith, omega arith)
 counts_within (suc (suc (suc (suc (suc zero))))) l = (omega arith, omega arith)
 counts_within (suc (suc (suc (suc (suc (suc i)))))) l = absurd (omega arith)
+
+pub geometry_ok : (k : ℕ) (r : Result Geometry Refusal) → 1 ≤ k → k ≤ 64 → built k 0 r → is_ok r ≡ true
+geometry_ok k (Ok g) some most b = refl
+geometry_ok k (Err e) some most b = absurd (geometry_accepted k (Err e) e some most b refl)
+
+-- lists that are as long as roomy ones are roomy
+pub roomy_long : {K : Type 0} (n : ℕ) (l l' : Lists K) → Roomy n l → AsLong l l' → Roomy n l'
+roomy_long n l l' q e = record {
+  few = q.few;
+  slots = omega (arith, q.slots, ap (λ (p : Places). p.slots) e);
+  next = omega (arith, q.next, ap (λ (p : Places). p.next) e);
+  serving = omega (arith, q.serving, ap (λ (p : Places). p.serving) e);
+  held = omega (arith, q.held, ap (λ (p : Places). p.held) e);
+}
+
+pub same_lists : {K : Type 0} (a b c : Lists K) → SameLists a b → SameLists b c → SameLists a c
+same_lists a b c p q = record { slots = q.slots ∙ p.slots; next = q.next ∙ p.next; held = q.held ∙ p.held; serving = q.serving ∙ p.serving }
 
 pub no_fault : {A : Type 0} (e : ReplayFault) (a : A) → ◌≡◌ {A = Result A ReplayFault} (Err e) (Ok a) → ⊥
 no_fault e a h = let z : ◌≡◌ {A = ℕ} 0 1 = cc in omega arith

@@ -1,14 +1,18 @@
 -- What a sheet shows of a list of touches. Assumes nothing.
-use Rattle.std.specs.Prelude.{ℕ, min, cond, List, [], ◌∷◌, map, Ok, Err, Result, nat_le}
+use Rattle.std.specs.Prelude.{ℕ, ◌≤◌, min, cond, List, [], ◌∷◌, ◌++◌, map, length, Ok, Err, Result, nat_le, decimal}
 use Rattle.base.specs.declared.refusal.Refusal.TheVariants as refusal
 use Rattle.policy.specs.Machine.{start, fetches}
 use Rattle.policy.specs.Lru.{lru_rules}
 use Rattle.policy.specs.Fifo.{fifo_rules}
 use Rattle.policy.specs.Clock.{clock_rules}
 use Rattle.planning.specs.Minimum.{min_fetches}
+use Rattle.planning.specs.Lists.{places}
+use Rattle.planning.specs.Plan.{Places}
+use Rattle.planning.specs.declared.lists.Lists.{Lists}
 use Rattle.trace.specs.declared.fault.ReplayFault.{ReplayFault}
 use Rattle.trace.specs.declared.fault.ReplayFault.TheVariants as replay_fault
 use Rattle.trace.specs.Accesses.{and_then}
+use Rattle.trace.specs.Splits.{comma}
 use Rattle.trace.specs.Touches.{judged}
 use Rattle.sheet.specs.declared.row.Row.{Row}
 
@@ -22,25 +26,40 @@ row_of touches k = record {
   min = min_fetches k [] touches;
 }
 
+-- a row is printed as its numbers, with commas between them
+abbrev pub shown_row : Row → List ℕ
+shown_row r =
+    decimal r.frames ++ (comma ∷ (decimal r.lru ++ (comma ∷ (decimal r.fifo ++
+    (comma ∷ (decimal r.clock ++ (comma ∷ decimal r.min)))))))
+
 -- the numbers of frames that a sheet has a row for
 abbrev pub frame_counts : List ℕ
 frame_counts = 1 ∷ (2 ∷ (3 ∷ (4 ∷ (8 ∷ (64 ∷ [])))))
 
--- how many places the lists have that the caller lends
+-- how many places the lists have that the caller lends, the list of keys and those of planning
 pub record Lent : Type 0 where
   pub keys : ℕ
-  pub slots : ℕ
-  pub next : ℕ
-  pub held : ℕ
-  pub serving : ℕ
+  pub lists : Places
+
+abbrev pub lent : {K : Type 0} → List K → Lists K → Lent
+lent keys lists = record { keys = length keys; lists = places lists }
+
+-- lists with places for so many touches and 64 frames
+pub record Roomy {K : Type 0} (touches : ℕ) (lists : Lists K) : Type 0 where
+  pub few : touches ≤ 4096
+  pub slots : touches ≤ length lists.slots.now
+  pub next : touches ≤ length lists.next.now
+  pub serving : touches ≤ length lists.serving.now
+  pub held : 64 ≤ length lists.held.now
 
 -- how many touches they have places for
 abbrev pub room : Lent → ℕ
-room l = min (min (min l.keys l.slots) l.next) l.serving
+room l = min (min (min l.keys l.lists.slots) l.lists.next) l.lists.serving
 
 -- the touches of a text that the lists have places for; the held-key list has a place for each of 64 frames
 abbrev pub touches_for : List ℕ → Lent → Result (List ℕ) ReplayFault
-touches_for text l = and_then (judged text (room l)) (λ touches. cond (nat_le 64 l.held) (Ok touches) (Err (replay_fault.Refused refusal.TooFewPlaces)))
+touches_for text l = and_then (judged text (room l))
+    (λ touches. cond (nat_le 64 l.lists.held) (Ok touches) (Err (replay_fault.Refused refusal.TooFewPlaces)))
 
 -- the sheet: a row for each number of frames, or the fault
 abbrev pub sheet_of : List ℕ → Lent → Result (List Row) ReplayFault

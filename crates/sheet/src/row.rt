@@ -1,5 +1,5 @@
 // One line of the sheet.
-#[derive(Clone, Copy)]
+#[derive(Clone, Copy, PartialEq, Eq, Debug)]
 pub struct Row {
     pub frames: u8,
     pub lru: u64,
@@ -9,5 +9,6 @@ pub struct Row {
 }
 
 mod calls;
+mod shown;
 
 pub(crate) use calls::row_of_keys;

@@ -1,27 +1,23 @@
 // The sheet of a trace: a row for each of a few numbers of frames.
-ghost use Rattle.std.specs.Prelude.{◌≡◌, ◌≤◌, false, map, length, is_ok, Ok};
+ghost use Rattle.std.specs.Prelude.{◌≡◌, false, map, length, is_ok};
 ghost use Rattle.base.specs.Keys.{volume_code};
 ghost use Rattle.trace.specs.Touches.{Written};
-ghost use Rattle.sheet.specs.Rows.{row_of, frame_counts, touches_for, sheet_of};
+ghost use Rattle.planning.specs.Lists.{Unchanged, AsLong, SameLists};
+ghost use Rattle.sheet.specs.Rows.{row_of, frame_counts, Roomy, lent, touches_for, sheet_of};
 
 use crate::row::{Row, row_of_keys};
 use base::{Geometry, Refusal, VolumeKey};
-use index::Slot;
+use planning::Lists;
 use trace::{ReplayFault, judge_trace, read_trace};
 
 pub const FRAME_COUNTS: [u8; 6] = [1, 2, 3, 4, 8, 64];
 
-// A row for each number of frames, in memory with enough places.
-fn rows_of_keys(
-    keys: &[VolumeKey],
-    slots: &mut [Slot<VolumeKey>],
-    next: &mut [u32],
-    held: &mut [u32],
-    serving: &mut [u8],
-) -> Result<[Row; 6], Refusal>
-    requires few { (length keys.now ≤ 4096) × ((length keys.now ≤ length slots.old) × ((length keys.now ≤ length next.old) × (length keys.now ≤ length serving.old))) }
-    requires held { 64 ≤ length held.old }
-    ensures { result ≡ Ok (map (row_of (map volume_code keys.now)) frame_counts) }
+// A row for each number of frames.
+fn rows_of_keys(keys: &[VolumeKey], lists: &mut Lists<'_, VolumeKey>) -> [Row; 6]
+    requires { Roomy (length keys.now) lists.old }
+    ensures rows { result ≡ map (row_of (map volume_code keys.now)) frame_counts }
+    ensures long { AsLong lists.old lists.new }
+    ensures same { SameLists lists.old lists.new }
 {
     let none = Row {
         frames: 0,
@@ -31,11 +27,11 @@ fn rows_of_keys(
         min: 0,
     };
     let mut rows = [none; 6];
-    for i in 0..6 {
-        let geometry = Geometry::new(FRAME_COUNTS[i] as usize, 0)?;
-        rows[i] = row_of_keys(&geometry, keys, slots, next, held, serving)?;
+    for (place, frames) in FRAME_COUNTS.iter().enumerate() {
+        let geometry = Geometry::new(*frames as usize, 0).unwrap();
+        rows[place] = row_of_keys(&geometry, keys, lists);
     }
-    Ok(rows)
+    rows
 }
 
 // The rows of a trace, or its fault, in memory that the caller lends: places for the touches in each list, for up to 64 frames in the
@@ -43,25 +39,23 @@ fn rows_of_keys(
 pub fn sheet_of_trace(
     text: &[u8],
     keys: &mut [VolumeKey],
-    slots: &mut [Slot<VolumeKey>],
-    next: &mut [u32],
-    held: &mut [u32],
-    serving: &mut [u8],
+    lists: &mut Lists<'_, VolumeKey>,
 ) -> Result<[Row; 6], ReplayFault>
-    ensures answer { result ≡ sheet_of text.now (record { keys = length keys.old; slots = length slots.old; next = length next.old; held = length held.old; serving = length serving.old }) }
-    ensures keys { Written (touches_for text.now (record { keys = length keys.old; slots = length slots.old; next = length next.old; held = length held.old; serving = length serving.old })) keys.old keys.new }
-    ensures refused { is_ok result ≡ false → (slots.new ≡ slots.old) × (next.new ≡ next.old) × (held.new ≡ held.old) × (serving.new ≡ serving.old) }
+    ensures answer { result ≡ sheet_of text.now (lent keys.old lists.old) }
+    ensures keys { Written (touches_for text.now (lent keys.old lists.old)) keys.old keys.new }
+    ensures long { AsLong lists.old lists.new }
+    ensures same { SameLists lists.old lists.new }
+    ensures refused { is_ok result ≡ false → Unchanged lists.old lists.new × (lists.new.serving.now ≡ lists.old.serving.now) }
 {
     let room = keys
         .len()
-        .min(slots.len())
-        .min(next.len())
-        .min(serving.len());
+        .min(lists.slots.len())
+        .min(lists.next.len())
+        .min(lists.serving.len());
     judge_trace(text, room)?;
-    if held.len() < 64 {
+    if lists.held.len() < 64 {
         return Err(ReplayFault::Refused(Refusal::TooFewPlaces));
     }
     let touches = read_trace(text, keys)?;
-    let rows = rows_of_keys(&keys[0..touches], slots, next, held, serving)?;
-    Ok(rows)
+    Ok(rows_of_keys(&keys[0..touches], lists))
 }

@@ -1,37 +1,31 @@
 // What a row counts.
-ghost use Rattle.std.specs.Prelude.{◌≡◌, ◌≤◌, map, length, Ok};
+ghost use Rattle.std.specs.Prelude.{◌≡◌, map, length};
 ghost use Rattle.base.specs.Geometries.{frames_of};
-ghost use Rattle.sheet.specs.Rows.{row_of};
+ghost use Rattle.planning.specs.Lists.{AsLong, SameLists};
+ghost use Rattle.sheet.specs.Rows.{row_of, Roomy};
 
 use super::Row;
-use base::{Geometry, Key, Refusal};
-use index::Slot;
-use planning::{plan_touches, replay_keys};
+use base::{Geometry, Key};
+use planning::{Lists, plan_touches, replay_keys};
 use policy::{Clock, Fifo, Lru};
 
-// The fetches of each policy on the geometry's frames, and of MIN on as many, in memory with enough places.
-pub(crate) fn row_of_keys<K: Key>(
-    geometry: &Geometry,
-    keys: &[K],
-    slots: &mut [Slot<K>],
-    next: &mut [u32],
-    held: &mut [u32],
-    serving: &mut [u8],
-) -> Result<Row, Refusal>
-    requires few { (length keys.now ≤ 4096) × ((length keys.now ≤ length slots.old) × ((length keys.now ≤ length next.old) × (length keys.now ≤ length serving.old))) }
-    requires held { 64 ≤ length held.old }
-    ensures { result ≡ Ok (row_of (map K.Key.code keys.now) (frames_of geometry.now)) }
+// The fetches of each policy on the geometry's frames, and of MIN on as many. The lists have enough places, so nothing is refused.
+pub(crate) fn row_of_keys<K: Key>(geometry: &Geometry, keys: &[K], lists: &mut Lists<'_, K>) -> Row
+    requires { Roomy (length keys.now) lists.old }
+    ensures counts { result ≡ row_of (map K.Key.code keys.now) (frames_of geometry.now) }
+    ensures long { AsLong lists.old lists.new }
+    ensures same { SameLists lists.old lists.new }
 {
     let frames = geometry.frames();
-    let lru = replay_keys::<Lru, K>((), geometry, keys, slots, held)?;
-    let fifo = replay_keys::<Fifo, K>((), geometry, keys, slots, held)?;
-    let clock = replay_keys::<Clock, K>((), geometry, keys, slots, held)?;
-    let plan = plan_touches(keys, frames, frames, slots, next, held, serving)?;
-    Ok(Row {
+    let lru = replay_keys::<Lru, K>((), geometry, keys, lists.slots, lists.held).unwrap();
+    let fifo = replay_keys::<Fifo, K>((), geometry, keys, lists.slots, lists.held).unwrap();
+    let clock = replay_keys::<Clock, K>((), geometry, keys, lists.slots, lists.held).unwrap();
+    let plan = plan_touches(keys, frames, frames, lists).unwrap();
+    Row {
         frames: frames as u8,
         lru,
         fifo,
         clock,
         min: plan.fetches,
-    })
+    }
 }
