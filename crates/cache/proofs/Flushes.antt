@@ -1,18 +1,17 @@
 -- What a flush does, place by place.
-use Rattle.std.proofs.Common.{◌≡◌, ℕ, zero, suc, ◌+◌, ◌<◌, ◌≤◌, false, ◌≢◌, get_or, sym, refl, ap, ◌∙◌, inl, inr, add-one, arith}
+use Rattle.std.proofs.Common.{◌≡◌, ℕ, zero, suc, ◌<◌, ◌≤◌, false, ◌≢◌, sym, refl, ap, ◌∙◌, inl, inr, arith}
 use mathlib.Core.Path.{fun_ext}
 use Rattle.std.proofs.lemmas.Bool.{cases_Bool, cases_eq}
-use Rattle.std.proofs.lemmas.List.{get_or-set_same, get_or-set_other}
 use Rattle.base.specs.Lists.{member, place_in}
 use Rattle.policy.specs.Machine.{Rules}
 use Rattle.policy.specs.Shape.{Shape}
 use Rattle.disk.specs.Meaning.{raised}
-use Rattle.cache.specs.Places.{held, pins}
+use Rattle.cache.specs.Places.{used, place_at, held, pins}
 use Rattle.cache.specs.View.{View, Sound, seen, machine}
 use Rattle.cache.specs.Steps.{backed_view}
 use Rattle.cache.specs.Flush.{raised_by, Flushed}
-use Rattle.cache.proofs.Stores.{at_place, cleaned_holds, cleaned_shows}
-use Rattle.cache.proofs.Views.{used_72, same_meaning, written_sized}
+use Rattle.cache.proofs.Stores.{at_place, cleaned_used, cleaned_held, cleaned_at, cleaned_other, cleaned_holds, cleaned_shows}
+use Rattle.cache.proofs.Views.{same_meaning, written_sized}
 
 -- the first n places written below where they are dirty
 abbrev pub flushed_view : {State : Type 0} → View State → ℕ → View State
@@ -26,36 +25,35 @@ module _ {Setting State : Type 0} (r : Rules Setting State) (shape : Shape r) wh
     pub shows : seen w ≡ seen v
     pub stays : machine w ≡ machine v
     pub fetched : w.fetched ≡ v.fetched
-    pub filled : w.store.used ≡ v.store.used
+    pub filled : used w.store ≡ used v.store
     pub pinned : pins w.store ≡ pins v.store
-    pub clean : (i : ℕ) → i < n → get_or w.store.dirty i false ≡ false
-    pub rest : (i : ℕ) → n ≤ i → get_or w.store.dirty i false ≡ get_or v.store.dirty i false
+    pub clean : (i : ℕ) → i < n → (place_at w.store i).dirty ≡ false
+    pub rest : (i : ℕ) → n ≤ i → (place_at w.store i).dirty ≡ (place_at v.store i).dirty
     pub reads : w.below.reads ≡ v.below.reads
-    pub writes : w.below.writes ≡ raised_by v.store.dirty n v.below.writes
+    pub writes : w.below.writes ≡ raised_by v.store n v.below.writes
 
   -- one place more
-  flushing_more : (v w : View State) (n : ℕ) → n < v.store.used → Flushing v w n → Flushing v (backed_view w n) (suc n)
+  flushing_more : (v w : View State) (n : ℕ) → n < used v.store → Flushing v w n → Flushing v (backed_view w n) (suc n)
   flushing_more v w n h q =
-      let filled : n < w.store.used = rw q.filled h in
-      let most = used_72 r shape w q.sound in
-      elim (cases_Bool (get_or w.store.dirty n false)) [
+      let filled : n < used w.store = rw q.filled h in
+      elim (cases_Bool (place_at w.store n).dirty) [
         | inl d ↦ rw d (record {
           sound = record {
-            placing = q.sound.placing;
-            holding = cleaned_holds w.store most q.sound.holding n filled;
+            placing = rw (cleaned_used w.store n) q.sound.placing;
+            holding = cleaned_holds w.store q.sound.holding n filled;
             sizes = written_sized w.below _ _ q.sound.sizes (q.sound.holding.sized n filled);
           };
-          shows = same_meaning (seen w) _ (cleaned_shows w.store most q.sound.holding n filled) ∙ q.shows;
-          stays = q.stays;
+          shows = same_meaning (seen w) _ (cleaned_shows w.store q.sound.holding n filled) ∙ q.shows;
+          stays = rw (cleaned_held w.store n) q.stays;
           fetched = q.fetched;
-          filled = q.filled;
-          pinned = q.pinned;
+          filled = cleaned_used w.store n ∙ q.filled;
+          pinned = rw (cleaned_held w.store n) q.pinned;
           reads = q.reads;
           clean = λ i k. elim (cases_eq i n) [
-            | inl e ↦ rw e (get_or-set_same w.store.dirty n false false (rw q.sound.holding.whole.dirty (omega arith)))
-            | inr m ↦ get_or-set_other w.store.dirty n i false false m ∙ q.clean i (let m' : i ≢ n = m in omega arith)
+            | inl e ↦ rw e (cleaned_at w.store n filled)
+            | inr m ↦ rw (cleaned_other w.store n i m) (q.clean i (let m' : i ≢ n = m in omega arith))
           ];
-          rest = λ i k. get_or-set_other w.store.dirty n i false false (λ e. omega arith) ∙ q.rest i (omega arith);
+          rest = λ i k. rw (cleaned_other w.store n i (λ e. omega arith)) (q.rest i (omega arith));
           writes = rw (sym (q.rest n (omega arith)) ∙ d) (ap raised q.writes);
         })
         | inr d ↦ rw d (record {
@@ -72,23 +70,23 @@ module _ {Setting State : Type 0} (r : Rules Setting State) (shape : Shape r) wh
         })
       ]
 
-  pub flushing : (v : View State) (n : ℕ) → Sound r v → n ≤ v.store.used → Flushing v (flushed_view v n) n
+  pub flushing : (v : View State) (n : ℕ) → Sound r v → n ≤ used v.store → Flushing v (flushed_view v n) n
   flushing v zero s h = record
       { sound = s; shows = refl; stays = refl; fetched = refl; filled = refl; pinned = refl; reads = refl; writes = refl; clean = λ i k. absurd (omega arith); rest = λ i k. refl }
   flushing v (suc n) s h = flushing_more v (flushed_view v n) n (omega arith) (flushing v n s (omega arith))
 
   -- where no place is dirty, the disk below has what the cache shows
-  pub clean_shows : (w : View State) → Sound r w → ((i : ℕ) → i < w.store.used → get_or w.store.dirty i false ≡ false) → w.below.bytes ≡ (seen w).bytes
+  pub clean_shows : (w : View State) → Sound r w → ((i : ℕ) → i < used w.store → (place_at w.store i).dirty ≡ false) → w.below.bytes ≡ (seen w).bytes
   clean_shows w s clean = fun_ext (λ x. elim (cases_Bool (member x (held w.store))) [
     | inl e ↦
-        let p = at_place w.store s.holding.whole (used_72 r shape w s) x e in
+        let p = at_place w.store x e in
         rw e (sym (s.holding.clean (place_in x (held w.store)) p.0 (clean _ p.0) ∙ ap w.below.bytes p.1))
     | inr e ↦ rw e
   ])
 
-  pub flushed_is : (v w : View State) → Flushing v w v.store.used → Flushed v w
+  pub flushed_is : (v w : View State) → Flushing v w (used v.store) → Flushed v w
   flushed_is v w q =
-      let clean : (i : ℕ) → i < w.store.used → get_or w.store.dirty i false ≡ false = λ i k. q.clean i (rw q.filled at k) in
+      let clean : (i : ℕ) → i < used w.store → (place_at w.store i).dirty ≡ false = λ i k. q.clean i (rw q.filled at k) in
       record {
         shows = q.shows;
         stays = q.stays;
@@ -101,9 +99,5 @@ module _ {Setting State : Type 0} (r : Rules Setting State) (shape : Shape r) wh
       }
 
   -- the same of a view that is known to be so
-  pub flushing_at : (v w : View State) (n : ℕ) → Sound r v → n ≤ v.store.used → w ≡ flushed_view v n → Flushing v w n
+  pub flushing_at : (v w : View State) (n : ℕ) → Sound r v → n ≤ used v.store → w ≡ flushed_view v n → Flushing v w n
   flushing_at v w n s h e = rw e (flushing v n s h)
-
--- one place more
-pub flushed_more : {State : Type 0} (v w w' : View State) (n : ℕ) → w ≡ flushed_view v n → w' ≡ backed_view w n → w' ≡ flushed_view v (n + 1)
-flushed_more v w w' n e e' = rw (add-one, e', e)

@@ -1,7 +1,8 @@
 -- Where a key stands in a list.
-use Rattle.std.proofs.Common.{◌≡◌, ℕ, zero, suc, ◌+◌, ◌-◌, ◌<◌, ◌≤◌, true, false, ◌||◌, eqb, List, [], ◌∷◌, ◌++◌, length, get_or, take, drop, Some, None, sym, refl, ap, ◌∙◌, inl, inr, zero-add, arith}
-use Rattle.std.proofs.lemmas.Bool.{cases_Bool, cases_lt, eqb-true, eq-eqb, ne_eqb, lt-ltb, le-ltb, or_parts, or_left, true≢false}
-use Rattle.std.proofs.lemmas.List.{length-drop, drop-set-add, drop-append-le, take-set-le, take-append-le}
+use Rattle.std.proofs.Common.{◌≡◌, ℕ, zero, suc, ◌+◌, ◌-◌, ◌<◌, ◌≤◌, true, false, ◌||◌, eqb, ltb, nat_eq, List, [], ◌∷◌, map, length, get_or, take, drop, Some, is_some, sym, refl, ◌∙◌, inl, inr, zero-add, arith}
+use Rattle.std.proofs.lemmas.Bool.{cases_Bool, cases_eq, cases_lt, eqb-true, eq-eqb, ne_eqb, lt-ltb, le-ltb, or_parts, or_left, true≢false}
+use Rattle.std.proofs.lemmas.List.{length-map, length-drop, drop-set-add, drop-append-le, take-set-le, take-append-le}
+use Rattle.std.specs.List.{position, position_or_len}
 use Rattle.policy.specs.Machine.{put}
 use Rattle.base.specs.Lists.{member, place_in}
 use Rattle.cache.specs.Places.{found}
@@ -24,25 +25,9 @@ place_index x [] h = absurd (true≢false (sym h))
 place_index x (y ∷ ys) h =
     elim (cases_Bool (eqb x y)) [ inl e ↦ rw e (sym (eqb-true x y e)) | inr e ↦ rw e (place_index x ys (rw e at h)) ]
 
--- a key that stands at i, and nowhere before it, has i as its place
-pub first_at : (x : ℕ) (xs : List ℕ) (i : ℕ) → i < length xs → get_or xs i 0 ≡ x → member x (take i xs) ≡ false →
-    (member x xs ≡ true) × (place_in x xs ≡ i)
-first_at x [] i h at none = absurd (omega arith)
-first_at x (y ∷ ys) zero h at none = let e : eqb x y ≡ true = eq-eqb x y (sym at) in rw e (refl, refl)
-first_at x (y ∷ ys) (suc i) h at none =
-    let p = or_parts (eqb x y) (member x (take i ys)) none in
-    let q = first_at x ys i (omega arith) at p.1 in
-    rw p.0 (q.0, ap suc q.1)
-
 -- a key that is not held is at no place
 pub never_at : (x : ℕ) (xs : List ℕ) (i : ℕ) → member x xs ≡ false → i < length xs → get_or xs i 0 ≡ x → ⊥
 never_at x xs i none h at = true≢false (sym (rw at at (member_at xs i h)) ∙ none)
-
--- a list with one more key, at its end
-pub member_push : (x : ℕ) (xs : List ℕ) (y : ℕ) → member x xs ≡ false → (y ≡ x → ⊥) → member x (xs ++ (y ∷ [])) ≡ false
-member_push x [] y none other = rw (ne_eqb x y (λ e. other (sym e)))
-member_push x (z ∷ zs) y none other =
-    let p = or_parts (eqb x z) (member x zs) none in rw p.0 (member_push x zs y p.1 other)
 
 -- a key that is found
 pub found_some : (keys : List ℕ) (x f : ℕ) → Some f ≡ found keys x → (member x keys ≡ true) × (f ≡ place_in x keys)
@@ -85,8 +70,28 @@ put_front n f x xs h = elim (cases_lt (n + f) (length xs)) [
 ]
 
 -- a key that is not found
-pub found_none : (keys : List ℕ) (x : ℕ) → None ≡ found keys x → member x keys ≡ false
-found_none keys x h = elim (cases_Bool (member x keys)) [
-  | inl e ↦ let q = rw e at h in absurd (let z : ◌≡◌ {A = ℕ} 0 1 = cc in omega arith)
-  | inr e ↦ e
+pub found_none : (keys : List ℕ) (x : ℕ) → is_some (found keys x) ≡ false → member x keys ≡ false
+found_none keys x h = elim (cases_Bool (member x keys)) [ inl e ↦ absurd (true≢false (rw e at h)) | inr e ↦ e ]
+
+-- a key stands in a list where its place is one of the list's
+member_place : (x : ℕ) (xs : List ℕ) → member x xs ≡ ltb (place_in x xs) (length xs)
+member_place x [] = refl
+member_place x (y ∷ ys) = elim (cases_Bool (eqb x y)) [
+  | inl e ↦ rw e (sym (lt-ltb 0 (length (y ∷ ys)) (omega arith)))
+  | inr e ↦ rw e (member_place x ys ∙ elim (cases_lt (place_in x ys) (length ys)) [
+    | inl l ↦ rw (lt-ltb (place_in x ys) (length ys) l, lt-ltb (suc (place_in x ys)) (length (y ∷ ys)) (omega arith))
+    | inr l ↦ rw (le-ltb (place_in x ys) (length ys) l, le-ltb (suc (place_in x ys)) (length (y ∷ ys)) (omega arith))
+  ])
 ]
+
+-- the first element of a list that has a key, and where that key is found
+module _ {X : Type 0} (key : X → ℕ) (x : ℕ) where
+  first_place : (es : List X) → position_or_len (λ e. nat_eq (key e) x) es ≡ place_in x (map key es)
+  first_place [] = refl
+  first_place (e ∷ es) = elim (cases_eq x (key e)) [
+    | inl k ↦ rw (eq-eqb (key e) x (sym k), eq-eqb x (key e) k)
+    | inr n ↦ rw (ne_eqb (key e) x (λ k. n (sym k)), ne_eqb x (key e) n, first_place es) (omega arith)
+  ]
+
+  pub position_found : (es : List X) → position (λ e. nat_eq (key e) x) es ≡ found (map key es) x
+  position_found es = rw (first_place es, member_place x (map key es), length-map es key)

@@ -1,6 +1,5 @@
 pub mod Keys
 pub mod Stores
-pub mod Joins
 pub mod Views
 pub mod Requests
 pub mod Takings
@@ -8,4 +7,3 @@ pub mod Flushes
 pub mod Promises
 pub mod SetUps
 pub mod Turnwise
-pub mod Sessions

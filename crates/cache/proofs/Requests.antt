@@ -1,18 +1,19 @@
 -- Requests: an access, and then the place's bytes read or written.
-use Rattle.std.proofs.Common.{◌≡◌, ℕ, ◌<◌, true, false, eqb, ◌≢◌, List, [], length, get_or, is_ok, Ok, Err, Result, sym, refl, ap, ◌∙◌, arith}
+use Rattle.std.proofs.Common.{◌≡◌, ℕ, true, false, eqb, ◌≢◌, List, length, is_ok, Ok, Err, Result, sym, refl, ap, ◌∙◌, arith}
 use Rattle.std.proofs.lemmas.Bool.{ne_eqb}
 use Rattle.base.specs.declared.refusal.Refusal.TheVariants.{BufferLength}
 use Rattle.base.specs.declared.refusal.Refusal.{Refusal}
+use Rattle.disk.specs.declared.tallies.Tallies.{Tallies}
 use Rattle.disk.specs.Meaning.{answer, serves, raised, read_one, written_one, after_read, buffer_read, after_write}
 use Rattle.policy.specs.Machine.{Rules}
 use Rattle.policy.specs.Shape.{Shape}
 use Rattle.cache.specs.declared.store.Store.{Store}
-use Rattle.cache.specs.Places.{pins, stored}
+use Rattle.cache.specs.Places.{place_at, pins, stored}
 use Rattle.cache.specs.View.{View, Sound, seen, machine}
 use Rattle.cache.specs.Steps.{touched_view, place_of, with_place}
 use Rattle.cache.specs.Requests.{Turned}
-use Rattle.cache.proofs.Stores.{HeldAt, shown_held, stored_holds, stored_shows}
-use Rattle.cache.proofs.Views.{Touched, touched_facts, used_72}
+use Rattle.cache.proofs.Stores.{HeldAt, shown_held, stored_used, stored_held, stored_holds, stored_shows}
+use Rattle.cache.proofs.Views.{Touched, touched_facts}
 
 -- what an answer with a place was
 pub with_ok : (a : Result (Unit {0}) Refusal) (f g : ℕ) → Ok f ≡ with_place a g → (a ≡ Ok tt) × (f ≡ g)
@@ -23,14 +24,25 @@ pub with_err : (a : Result (Unit {0}) Refusal) (e : Refusal) (g : ℕ) → Err e
 with_err (Ok u) e g h = let z : ◌≡◌ {A = ℕ} 0 1 = cc in absurd (omega arith)
 with_err (Err d) e g h = let q : d ≡ e = cc in ap Err q
 
--- a view with other tallies, and with another store and tally of writes
-abbrev pub reading : {State : Type 0} → View State → ℕ → View State
-reading w n = record { below = w.below; policy = w.policy; store = w.store; fetched = w.fetched; reads = n; writes = w.writes }
+-- a view with another store and other tallies
+abbrev pub counted : {State : Type 0} → View State → Store → Tallies → View State
+counted w s t = record { below = w.below; policy = w.policy; store = s; fetched = w.fetched; reads = t.reads; writes = t.writes }
 
-abbrev pub writing : {State : Type 0} → View State → Store → ℕ → View State
-writing w t n = record { below = w.below; policy = w.policy; store = t; fetched = w.fetched; reads = w.reads; writes = n }
+-- a request to a cache v that was refused, and left w, which shows the same
+module _ {State : Type 0} (v w : View State) (x : ℕ) (b : List ℕ) (shows : seen w ≡ seen v) (e : Refusal) (refused : Err e ≡ answer (seen v) x (length b)) where
+  unserved : serves (seen v) x (length b) ≡ false
+  unserved = ap is_ok (sym refused)
 
--- a request with a buffer of another length
+  pub refused_read : seen w ≡ after_read (seen v) x b
+  refused_read = rw unserved shows
+
+  pub refused_fills : b ≡ buffer_read (seen v) x b
+  refused_fills = rw unserved
+
+  pub refused_write : seen w ≡ after_write (seen v) x b
+  refused_write = rw unserved shows
+
+-- one with a buffer of another length
 module _ {Setting State : Type 0} (r : Rules Setting State) (v : View State) (x : ℕ) (b : List ℕ) (short : length b ≢ 512) where
   off : eqb (length b) 512 ≡ false
   off = ne_eqb (length b) 512 short
@@ -38,20 +50,8 @@ module _ {Setting State : Type 0} (r : Rules Setting State) (v : View State) (x 
   pub short_answer : ◌≡◌ {A = Result (Unit {0}) Refusal} (Err BufferLength) (answer (seen v) x (length b))
   short_answer = rw off
 
-  short_serves : serves (seen v) x (length b) ≡ false
-  short_serves = rw off
-
-  pub short_read : seen v ≡ after_read (seen v) x b
-  short_read = rw short_serves
-
-  pub short_fills : b ≡ buffer_read (seen v) x b
-  short_fills = rw short_serves
-
-  pub short_write : seen v ≡ after_write (seen v) x b
-  short_write = rw short_serves
-
   pub short_turned : Turned r v x (length b) v
-  short_turned = record { pinned = refl; touches = rw short_serves; counts = rw short_serves; below = rw short_serves }
+  short_turned = record { pinned = refl; touches = rw off; counts = rw off; below = rw off }
 
 -- A request for x with a buffer b of 512 bytes, to a cache v that a touch makes w.
 pub record Asked {Setting State : Type 0} (r : Rules Setting State) (v w : View State) (x : ℕ) (b : List ℕ) : Type 0 where
@@ -76,24 +76,11 @@ module _ {Setting State : Type 0} {r : Rules Setting State} {v w : View State} {
         below = rw q.long (eb ∙ t.below);
       }
 
-  -- a request that was refused
-  module _ (e : Refusal) (refused : Err e ≡ with_place (answer v.below x 512) (place_of r v x)) where
-    pub refused_answer : ◌≡◌ {A = Result (Unit {0}) Refusal} (Err e) (answer (seen v) x (length b))
-    refused_answer = rw q.long (sym (with_err (answer v.below x 512) e (place_of r v x) refused))
+  -- where the touch was refused
+  pub refused_answer : (e : Refusal) → Err e ≡ with_place (answer v.below x 512) (place_of r v x) → ◌≡◌ {A = Result (Unit {0}) Refusal} (Err e) (answer (seen v) x (length b))
+  refused_answer e refused = rw q.long (sym (with_err (answer v.below x 512) e (place_of r v x) refused))
 
-    pub refused_serves : serves (seen v) x (length b) ≡ false
-    refused_serves = ap is_ok (sym refused_answer)
-
-    pub refused_read : seen w ≡ after_read (seen v) x b
-    refused_read = rw refused_serves touched_is.shows
-
-    pub refused_fills : b ≡ buffer_read (seen v) x b
-    refused_fills = rw refused_serves
-
-    pub refused_write : seen w ≡ after_write (seen v) x b
-    refused_write = rw refused_serves touched_is.shows
-
-  -- one that was accepted, with the place f
+  -- where it was accepted, with the place f
   module _ (f : ℕ) (accepted : Ok f ≡ with_place (answer v.below x 512) (place_of r v x)) where
     pub accepted_answer : ◌≡◌ {A = Result (Unit {0}) Refusal} (Ok tt) (answer (seen v) x (length b))
     accepted_answer = rw q.long (sym (with_ok (answer v.below x 512) f (place_of r v x) accepted).0)
@@ -104,31 +91,28 @@ module _ {Setting State : Type 0} {r : Rules Setting State} {v w : View State} {
     pub accepted_at : HeldAt w.store x f
     accepted_at = rw (with_ok (answer v.below x 512) f (place_of r v x) accepted).1 (touched_is.at (rw q.long at accepted_serves))
 
-    pub place_72 : f < 72
-    place_72 = let p = accepted_at.0 in let m = used_72 r q.shape w touched_is.sound in omega arith
+    pub read_sound : (t : Tallies) → Sound r (counted w w.store t)
+    read_sound t = record { placing = touched_is.sound.placing; holding = touched_is.sound.holding; sizes = touched_is.sound.sizes }
 
-    pub read_sound : (n : ℕ) → Sound r (reading w n)
-    read_sound n = record { placing = touched_is.sound.placing; holding = touched_is.sound.holding; sizes = touched_is.sound.sizes }
+    pub read_after : (t : Tallies) → t.reads ≡ raised w.reads → t.writes ≡ w.writes → seen (counted w w.store t) ≡ after_read (seen v) x b
+    read_after t e k = rw (accepted_serves, e, k) (ap read_one touched_is.shows)
 
-    pub read_after : (n : ℕ) → n ≡ raised w.reads → seen (reading w n) ≡ after_read (seen v) x b
-    read_after n e = rw (accepted_serves, e) (ap read_one touched_is.shows)
-
-    pub read_fills : get_or w.store.blocks f [] ≡ buffer_read (seen v) x b
+    pub read_fills : (place_at w.store f).block ≡ buffer_read (seen v) x b
     read_fills =
         let k = touched_is.sound in
-        rw accepted_serves (sym (shown_held w.store k.holding.whole (used_72 r q.shape w k) k.holding w.below.bytes x f accepted_at) ∙ ap (λ m. m.bytes x) touched_is.shows)
+        rw accepted_serves (sym (shown_held w.store k.holding w.below.bytes x f accepted_at) ∙ ap (λ m. m.bytes x) touched_is.shows)
 
-    module _ (t : Store) (put : t ≡ stored w.store f b) where
-      pub write_sound : (n : ℕ) → Sound r (writing w t n)
-      write_sound n =
+    module _ (s : Store) (put : s ≡ stored w.store f b) (t : Tallies) where
+      pub write_sound : Sound r (counted w s t)
+      write_sound =
           let k = touched_is.sound in
-          rw put (record { placing = k.placing; holding = stored_holds w.store (used_72 r q.shape w k) k.holding f accepted_at.0 b q.long; sizes = k.sizes })
+          rw put (record { placing = rw (stored_used w.store f b) k.placing; holding = stored_holds w.store k.holding f accepted_at.0 b q.long; sizes = k.sizes })
 
-      pub write_after : (n : ℕ) → n ≡ raised w.writes → seen (writing w t n) ≡ after_write (seen v) x b
-      write_after n e =
+      pub write_after : t.reads ≡ w.reads → t.writes ≡ raised w.writes → seen (counted w s t) ≡ after_write (seen v) x b
+      write_after u e =
           let k = touched_is.sound in
-          rw (accepted_serves, put, e, stored_shows w.store (used_72 r q.shape w k) k.holding f accepted_at.0 b, accepted_at.1)
+          rw (accepted_serves, put, u, e, stored_shows w.store k.holding f accepted_at.0 b, accepted_at.1)
           (ap (λ m. written_one m x b) touched_is.shows)
 
-      pub write_turned : (n : ℕ) → Turned r v x (length b) (writing w t n)
-      write_turned n = turned (writing w t n) (rw put) (rw put) refl refl
+      pub write_turned : Turned r v x (length b) (counted w s t)
+      write_turned = turned (counted w s t) (rw (put, stored_held w.store f b)) (rw (put, stored_held w.store f b)) refl refl

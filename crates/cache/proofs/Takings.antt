@@ -1,5 +1,5 @@
 -- One turn more: what a turn did to a cache, put behind the turns that it had taken.
-use Rattle.std.proofs.Common.{◌≡◌, ℕ, ◌+◌, ◌<◌, ◌≤◌, min, Bool, true, false, cond, not, ◌&&◌, ◌||◌, eqb, ltb, List, [], ◌∷◌, ◌++◌, length, get_or, is_ok, Ok, Result, sym, refl, ap, ◌∙◌, subst, inl, inr, append_assoc, arith}
+use Rattle.std.proofs.Common.{◌≡◌, ℕ, ◌+◌, ◌<◌, ◌≤◌, min, Bool, true, false, cond, not, ◌&&◌, ◌||◌, eqb, ltb, List, [], ◌∷◌, ◌++◌, length, is_ok, Ok, Result, sym, refl, ap, ◌∙◌, subst, inl, inr, append_assoc, arith}
 use mathlib.Core.Path.{fun_ext}
 use Rattle.std.proofs.lemmas.Bool.{cases_Bool, true≢false}
 use Rattle.std.proofs.lemmas.List.{append-nil}
@@ -11,7 +11,7 @@ use Rattle.disk.specs.Meaning.{Meaning, answer, serves, raised, read_one, writte
 use Rattle.disk.specs.Turns.{is_read, is_write, answer_request}
 use Rattle.policy.specs.Machine.{Rules, Machine, touch, touched, fetches}
 use Rattle.policy.specs.Machines.{touched_append, fetches_append}
-use Rattle.cache.specs.Places.{pins, framed}
+use Rattle.cache.specs.Places.{used, place_at, pins, framed}
 use Rattle.cache.specs.View.{View, seen, machine}
 use Rattle.cache.specs.Steps.{next_place}
 use Rattle.cache.specs.Requests.{Turned, misses, fetched_below}
@@ -101,7 +101,7 @@ module _ {Setting State : Type 0} (r : Rules Setting State) where
       rw (fetches_append r n₀ ts (cond b (x ∷ []) []), ← e, fetch_one n b x)
 
   -- one turn more
-  pub taken_more : (o : Origin Setting) (es : List Event) (v v' : View State) (e : Event) → Taken r o es v → Step v e v' → Taken r o (es ++ (e ∷ [])) v'
+  taken_more : (o : Origin Setting) (es : List Event) (v v' : View State) (e : Event) → Taken r o es v → Step v e v' → Taken r o (es ++ (e ∷ [])) v'
   taken_more o es v v' e t s =
       let m = o.disk in
       let x = e.sector in
@@ -137,7 +137,7 @@ module _ {Setting State : Type 0} (r : Rules Setting State) where
 
   -- the disk below after a turn that is a fetch or none
   served_turn : (v : View State) (c : Bool) (m : Meaning) → m ≡ cond c (fetched_below r v) v.below → Served v.below m
-  served_turn v true m e = rw e (elim (cases_Bool (ltb (next_place r v) v.store.used && get_or v.store.dirty (next_place r v) false))
+  served_turn v true m e = rw e (elim (cases_Bool (ltb (next_place r v) (used v.store) && (place_at v.store (next_place r v)).dirty))
       [ inl k ↦ rw k (reads_writes _ _) | inr k ↦ rw k reads ])
   served_turn v false m e = rw e nothing
 
@@ -162,11 +162,11 @@ module _ {Setting State : Type 0} (r : Rules Setting State) where
   write_frames n n' false p x e = e
 
   -- the event of a turn with the cache that it leaves
-  abbrev pub event : Request → ℕ → List ℕ → List ℕ → Result (Unit {0}) Refusal → View State → Event
+  abbrev event : Request → ℕ → List ℕ → List ℕ → Result (Unit {0}) Refusal → View State → Event
   event q x b b' a v' = record { request = q; sector = x; before = b; after = b'; answer = a; below = v'.below; fetched = v'.fetched }
 
   module _ (v v' : View State) (x : ℕ) (b : List ℕ) (a : Result (Unit {0}) Refusal) (answers : a ≡ answer (seen v) x (length b)) (turned : Turned r v x (length b) v') where
-    pub read_step : (b' : List ℕ) → b' ≡ buffer_read (seen v) x b → seen v' ≡ after_read (seen v) x b → Step v (event Read x b b' a v') v'
+    read_step : (b' : List ℕ) → b' ≡ buffer_read (seen v) x b → seen v' ≡ after_read (seen v) x b → Step v (event Read x b b' a v') v'
     read_step b' fills after =
         let kept : (c : Bool) (n : Meaning) → n ≡ cond c (read_one (seen v)) (seen v) → (n.bytes ≡ (seen v).bytes) × (n.count ≡ v.below.count) × (n.dead ≡ v.below.dead) =
         λ c n e. elim (cases_Bool c) [ inl k ↦ rw (e, k) (refl, refl, refl) | inr k ↦ rw (e, k) (refl, refl, refl) ] in
@@ -187,7 +187,7 @@ module _ {Setting State : Type 0} (r : Rules Setting State) where
           idle = λ _. idle_turn v (misses r v x (length b)) _ _ _ turned.below turned.counts;
         }
 
-    pub write_step : seen v' ≡ after_write (seen v) x b → Step v (event Write x b b a v') v'
+    write_step : seen v' ≡ after_write (seen v) x b → Step v (event Write x b b a v') v'
     write_step after =
         let kept : (c : Bool) (n : Meaning) → n ≡ cond c (written_one (seen v) x b) (seen v) → (n.bytes ≡ (λ y. cond (c && eqb y x) b ((seen v).bytes y))) × (n.count ≡ v.below.count) × (n.dead ≡ v.below.dead) =
         λ c n e. elim (cases_Bool c) [ inl k ↦ rw (e, k) (refl, refl, refl) | inr k ↦ rw (e, k) (refl, refl, refl) ] in
@@ -208,7 +208,7 @@ module _ {Setting State : Type 0} (r : Rules Setting State) where
           idle = λ _. idle_turn v (misses r v x (length b)) _ _ _ turned.below turned.counts;
         }
 
-  pub flush_step : (v v' : View State) (x : ℕ) (b : List ℕ) → Flushed v v' → Step v (event Flush x b b (Ok tt) v') v'
+  flush_step : (v v' : View State) (x : ℕ) (b : List ℕ) → Flushed v v' → Step v (event Flush x b b (Ok tt) v') v'
   flush_step v v' x b f = record {
     answers = refl;
     bytes = refl;
@@ -224,3 +224,16 @@ module _ {Setting State : Type 0} (r : Rules Setting State) where
     few = λ q. absurd (true≢false (sym q));
     idle = λ q. absurd (true≢false (sym q));
   }
+
+  -- a read, a write and a flush, behind the turns taken before
+  module _ (v v' : View State) (x : ℕ) (b : List ℕ) (a : Result (Unit {0}) Refusal) (answers : a ≡ answer (seen v) x (length b)) (turned : Turned r v x (length b) v') where
+    pub read_taken : (b' : List ℕ) → b' ≡ buffer_read (seen v) x b → seen v' ≡ after_read (seen v) x b →
+        (o : Origin Setting) (es : List Event) → Taken r o es v → Taken r o (es ++ (event Read x b b' a v' ∷ [])) v'
+    read_taken b' fills after o es t = taken_more o es v v' _ t (read_step v v' x b a answers turned b' fills after)
+
+    pub write_taken : seen v' ≡ after_write (seen v) x b → (o : Origin Setting) (es : List Event) → Taken r o es v → Taken r o (es ++ (event Write x b b a v' ∷ [])) v'
+    write_taken after o es t = taken_more o es v v' _ t (write_step v v' x b a answers turned after)
+
+  pub flush_taken : (v v' : View State) (x : ℕ) (b : List ℕ) → Flushed v v' → (o : Origin Setting) (es : List Event) → Taken r o es v →
+      Taken r o (es ++ (event Flush x b b (Ok tt) v' ∷ [])) v'
+  flush_taken v v' x b f o es t = taken_more o es v v' _ t (flush_step v v' x b f)

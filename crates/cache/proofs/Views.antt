@@ -1,20 +1,18 @@
 -- Views: each step keeps them sound, and what it does to what they show.
-use Rattle.std.proofs.Common.{◌≡◌, ℕ, ◌+◌, ◌-◌, ◌<◌, ◌≤◌, true, false, cond, not, ◌&&◌, ◌||◌, eqb, ltb, List, [], length, get_or, Some, Ok, Result, sym, refl, ap, ◌∙◌, subst, inl, inr, arith}
-use Rattle.std.proofs.lemmas.Bool.{cases_Bool, cases_lt, eq-eqb, ne_eqb, lt-ltb, le-ltb, ltb-true, ltb-false, or_parts, true≢false}
-use Rattle.std.proofs.lemmas.List.{get_or-set_same}
+use Rattle.std.proofs.Common.{◌≡◌, ℕ, ◌+◌, ◌-◌, ◌<◌, ◌≤◌, true, false, cond, not, ◌&&◌, ◌||◌, eqb, ltb, List, length, is_ok, Some, Ok, Result, sym, refl, ap, ◌∙◌, subst, inl, inr, arith}
+use Rattle.std.proofs.lemmas.Bool.{cases_Bool, cases_lt, lt-ltb, le-ltb, ltb-true, ltb-false, or_parts, true≢false}
 use Rattle.base.specs.Lists.{member, place_in}
 use Rattle.base.specs.declared.refusal.Refusal.{Refusal}
 use Rattle.policy.specs.Machine.{Rules, put, touch, fetch}
 use Rattle.policy.specs.Shape.{placed, used, Shape}
 use Rattle.disk.specs.Meaning.{Meaning, Sized, answer, serves, raised, written_one}
 use Rattle.disk.proofs.Served.{live_served, answer_live}
-use Rattle.cache.specs.Places.{held, pins, framed, found, installed}
+use Rattle.cache.specs.Places.{used as in_use, place_at, held, pins, framed, found, installed}
 use Rattle.cache.specs.View.{View, Sound, seen, machine}
 use Rattle.cache.specs.Steps.{used_frame, used_view, placed_view, looked_view, vacated_view, fetched_view, touched_view, next_place, place_of, with_place}
 use Rattle.cache.specs.Requests.{fetched_below}
-use Rattle.cache.proofs.Joins.{serves_live}
 use Rattle.cache.proofs.Keys.{found_some, member_cut, place_front, place_back, put_back, put_front}
-use Rattle.cache.proofs.Stores.{Absent, HeldAt, held_length, absent_from, at_place, cleaned_holds, cleaned_shows, replaced_other, installed_holds, installed_shows, installed_held, used_f, sector_f}
+use Rattle.cache.proofs.Stores.{Absent, HeldAt, held_length, absent_from, at_place, cleaned_used, cleaned_held, cleaned_at, cleaned_holds, cleaned_shows, replaced_other, installed_used, installed_holds, installed_shows, installed_held, used_f, sector_f}
 
 -- two disks of one shape that show the same
 pub same_meaning : (m : Meaning) (b : ℕ → List ℕ) → b ≡ m.bytes → ◌≡◌ {A = Meaning} (record { count = m.count; bytes = b; dead = m.dead; reads = m.reads; writes = m.writes }) m
@@ -26,19 +24,15 @@ written_sized m x b sizes long y inside = elim (cases_Bool (eqb y x)) [ inl e �
 
 module _ {Setting State : Type 0} (r : Rules Setting State) (shape : Shape r) where
   module _ (v : View State) (s : Sound r v) where
-    -- no more places are in use than there are
-    pub used_72 : v.store.used ≤ 72
-    used_72 = let p = s.placing in omega (arith, shape.within v.policy p.reached)
-
     -- the pins are in use
-    pub pinned_used : v.store.pinned ≤ v.store.used
+    pub pinned_used : v.store.pinned ≤ in_use v.store
     pinned_used = let p = s.placing in omega arith
 
     pub pinned_held : v.store.pinned ≤ length (held v.store)
-    pinned_held = rw (held_length v.store s.holding.whole used_72) pinned_used
+    pinned_held = rw (held_length v.store) pinned_used
 
     -- a place that the policy gives up is in use or the next
-    pub place_next : (next_place r v ≤ v.store.used) × (next_place r v < 72)
+    pub place_next : (next_place r v ≤ in_use v.store) × (next_place r v < 72)
     place_next =
         let p = s.placing in let w = shape.within v.policy p.reached in
         elim (cases_lt (r.filled v.policy) (r.frames v.policy)) [
@@ -47,19 +41,19 @@ module _ {Setting State : Type 0} (r : Rules Setting State) (shape : Shape r) wh
         ]
 
     -- the frames filled after it
-    pub placed_filled : r.filled (r.placed v.policy) + v.store.pinned ≡ cond (eqb (next_place r v) v.store.used) (v.store.used + 1) v.store.used
+    pub placed_filled : r.filled (r.placed v.policy) + v.store.pinned ≡ cond (ltb (next_place r v) (in_use v.store)) (in_use v.store) (in_use v.store + 1)
     placed_filled =
         let p = s.placing in let w = shape.within v.policy p.reached in
         elim (cases_lt (r.filled v.policy) (r.frames v.policy)) [
           | inl k ↦
               let e = shape.room_place v.policy p.reached k in
               let m = shape.room_filled v.policy p.reached k in
-              rw (eq-eqb (next_place r v) v.store.used (omega arith)) (omega arith)
+              rw (le-ltb (next_place r v) (in_use v.store) (omega arith)) (omega arith)
           | inr k ↦
               let full : r.filled v.policy ≡ r.frames v.policy = omega arith in
               let q = shape.full_place v.policy p.reached full in
               let m = shape.full_filled v.policy p.reached full in
-              rw (ne_eqb (next_place r v) v.store.used (λ e. omega arith)) (omega arith)
+              rw (lt-ltb (next_place r v) (in_use v.store) (omega arith)) (omega arith)
         ]
 
   -- a use of a filled frame
@@ -85,28 +79,28 @@ module _ {Setting State : Type 0} (r : Rules Setting State) (shape : Shape r) wh
     pub dead : w.below.dead ≡ v.below.dead
     pub bytes : w.below.bytes x ≡ v.below.bytes x
     pub fetched : w.fetched ≡ v.fetched
-    pub below : w.below ≡ cond (ltb p v.store.used && get_or v.store.dirty p false) (written_one v.below (get_or v.store.sectors p 0) (get_or v.store.blocks p [])) v.below
-    pub clean : p < w.store.used → get_or w.store.dirty p false ≡ false
+    pub below : w.below ≡ cond (ltb p (in_use v.store) && (place_at v.store p).dirty) (written_one v.below (place_at v.store p).sector (place_at v.store p).block) v.below
+    pub clean : p < in_use w.store → (place_at w.store p).dirty ≡ false
 
   pub vacated_is : (v : View State) (p x : ℕ) → Sound r v → Absent v.store x → Vacated v (vacated_view v p) p x
-  vacated_is v p x s none = elim (cases_Bool (ltb p v.store.used)) [
-    | inl e ↦ elim (cases_Bool (get_or v.store.dirty p false)) [
-      | inl d ↦ rw (e, d) (record {
+  vacated_is v p x s none = elim (cases_Bool (ltb p (in_use v.store))) [
+    | inl e ↦ elim (cases_Bool (place_at v.store p).dirty) [
+      | inl d ↦ let low = ltb-true p (in_use v.store) e in rw (e, d) (record {
         sound = record {
-          placing = s.placing;
-          holding = cleaned_holds v.store (used_72 v s) s.holding p (ltb-true p v.store.used e);
-          sizes = written_sized v.below _ _ s.sizes (s.holding.sized p (ltb-true p v.store.used e));
+          placing = rw (cleaned_used v.store p) s.placing;
+          holding = cleaned_holds v.store s.holding p low;
+          sizes = written_sized v.below _ _ s.sizes (s.holding.sized p low);
         };
-        shows = same_meaning (seen v) _ (cleaned_shows v.store (used_72 v s) s.holding p (ltb-true p v.store.used e));
+        shows = same_meaning (seen v) _ (cleaned_shows v.store s.holding p low);
         policy = refl;
-        holds = refl;
+        holds = cleaned_held v.store p;
         pinned = refl;
         count = refl;
         dead = refl;
         fetched = refl;
         below = rw (e, d);
-        bytes = replaced_other v.below.bytes _ x _ (λ k. none p (ltb-true p v.store.used e) (sym k));
-        clean = λ h. get_or-set_same v.store.dirty p false false (rw s.holding.whole.dirty (let q = used_72 v s in omega arith));
+        bytes = replaced_other v.below.bytes _ x _ (λ k. none p low (sym k));
+        clean = λ h. cleaned_at v.store p low;
       })
       | inr d ↦ rw (e, d) (record { sound = s; shows = refl; policy = refl; holds = refl; pinned = refl; count = refl; dead = refl; bytes = refl; fetched = refl; below = rw (e, d); clean = λ h. d })
     ]
@@ -121,35 +115,32 @@ module _ {Setting State : Type 0} (r : Rules Setting State) (shape : Shape r) wh
       bytes = refl;
       fetched = refl;
       below = rw e;
-      clean = λ h. let q = ltb-false p v.store.used e in absurd (omega arith);
+      clean = λ h. let q = ltb-false p (in_use v.store) e in absurd (omega arith);
     })
   ]
 
   -- a sector x that is not held, live below, put at place p, which is clean or the next
   module _ (w : View State) (x p : ℕ) (s : Sound r w) (none : Absent w.store x) (is : p ≡ next_place r w)
       (inside : x < w.below.count) (live : w.below.dead x ≡ false) (sized : length (w.below.bytes x) ≡ 512)
-      (clean : p < w.store.used → get_or w.store.dirty p false ≡ false) where
-    pub next : p ≤ w.store.used
+      (clean : p < in_use w.store → (place_at w.store p).dirty ≡ false) where
+    pub next : p ≤ in_use w.store
     next = rw is (place_next w s).0
-
-    pub room : p < 72
-    room = rw is (place_next w s).1
 
     pub placed_sound : Sound r (placed_view r w p x (w.below.bytes x))
     placed_sound =
         let q = s.placing in
         let a = shape.placed_frames w.policy q.reached in
         record {
-          placing = record { reached = placed q.reached; most = omega arith; few = q.few; filled = rw is (placed_filled w s) };
-          holding = installed_holds w.store (used_72 w s) s.holding x p none next room inside live sized;
+          placing = record { reached = placed q.reached; most = omega arith; few = q.few; filled = rw (installed_used w.store s.holding x p none next, is) (placed_filled w s) };
+          holding = installed_holds w.store s.holding x p none next inside live sized;
           sizes = s.sizes;
         }
 
     pub placed_shows : seen (placed_view r w p x (w.below.bytes x)) ≡ seen w
-    placed_shows = same_meaning (seen w) _ (installed_shows w.store (used_72 w s) s.holding x p none next room clean placed_sound.holding)
+    placed_shows = same_meaning (seen w) _ (installed_shows w.store s.holding x p none next clean placed_sound.holding)
 
     placed_held : held (installed w.store p x (w.below.bytes x)) ≡ put (held w.store) p x
-    placed_held = installed_held w.store (used_72 w s) s.holding x p none next room
+    placed_held = installed_held w.store s.holding x p none next
 
     pub placed_touches : machine (placed_view r w p x (w.below.bytes x)) ≡ fetch r (machine w) x
     placed_touches = rw (placed_held, is, put_back w.store.pinned (r.place w.policy) x (held w.store) (pinned_held w s))
@@ -158,7 +149,7 @@ module _ {Setting State : Type 0} (r : Rules Setting State) (shape : Shape r) wh
     placed_pins = rw (placed_held, is) (put_front w.store.pinned (r.place w.policy) x (held w.store) (pinned_held w s))
 
     pub placed_at : HeldAt (placed_view r w p x (w.below.bytes x)).store x p
-    placed_at = (used_f w.store (used_72 w s) s.holding x p none next room, sector_f w.store (used_72 w s) s.holding x p none next room)
+    placed_at = (used_f w.store s.holding x p none next, sector_f w.store s.holding x p none next)
 
   -- what holds of a view w that is v after a fetch of x into place p
   pub record Fetched (v w : View State) (p x : ℕ) : Type 0 where
@@ -174,7 +165,7 @@ module _ {Setting State : Type 0} (r : Rules Setting State) (shape : Shape r) wh
       Fetched v (fetched_view r v x) (next_place r v) x
   fetched_facts v x s out served =
       let p = next_place r v in
-      let none = absent_from v.store s.holding.whole (used_72 v s) x out in
+      let none = absent_from v.store x out in
       let u = looked_view v in
       let w = vacated_view u p in
       let q : Vacated u w p x = vacated_is u p x (record { placing = s.placing; holding = s.holding; sizes = s.sizes }) none in
@@ -184,7 +175,7 @@ module _ {Setting State : Type 0} (r : Rules Setting State) (shape : Shape r) wh
       let sized : length (w.below.bytes x) ≡ 512 = rw q.bytes (s.sizes x l.inside) in
       let is : p ≡ next_place r w = rw (q.policy, q.pinned) in
       let out' : member x (held w.store) ≡ false = rw q.holds out in
-      let none' = absent_from w.store q.sound.holding.whole (used_72 w q.sound) x out' in
+      let none' = absent_from w.store x out' in
       let P : List ℕ → Type 0 = λ b. Fetched v (placed_view r w p x b) p x in
       subst P q.bytes (record {
         sound = placed_sound w x p q.sound none' is inside live sized q.clean;
@@ -216,15 +207,15 @@ module _ {Setting State : Type 0} (r : Rules Setting State) (shape : Shape r) wh
     -- a sector that is held is served
     pub held_served : member x (held v.store) ≡ true → serves v.below x 512 ≡ true
     held_served e =
-        let p = at_place v.store s.holding.whole (used_72 v s) x e in
+        let p = at_place v.store x e in
         let i = place_in x (held v.store) in
-        serves_live v.below x 512 refl (rw p.1 at (s.holding.inside i p.0)) (rw p.1 at (s.holding.live i p.0))
+        ap is_ok (answer_live v.below x 512 refl (rw p.1 at (s.holding.inside i p.0)) (rw p.1 at (s.holding.live i p.0)))
 
     -- the frame of one that is held and not pinned
     pub frame_filled : member x (held v.store) ≡ true → v.store.pinned ≤ place_in x (held v.store) →
         place_in x (held v.store) - v.store.pinned < r.filled v.policy
     frame_filled e low =
-        let p = (at_place v.store s.holding.whole (used_72 v s) x e).0 in
+        let p = (at_place v.store x e).0 in
         let q = s.placing.filled in
         omega arith
 
@@ -240,7 +231,7 @@ module _ {Setting State : Type 0} (r : Rules Setting State) (shape : Shape r) wh
           shows = refl;
           pinned = refl;
           touches = rw (k, q);
-          at = λ _. rw e (at_place v.store s.holding.whole (used_72 v s) x e);
+          at = λ _. rw e (at_place v.store x e);
           counts = rw (k, q);
           below = rw (k, q);
         })
@@ -257,7 +248,7 @@ module _ {Setting State : Type 0} (r : Rules Setting State) (shape : Shape r) wh
           shows = refl;
           pinned = refl;
           touches = rw (k, q, m, frame);
-          at = λ _. rw e (at_place v.store s.holding.whole (used_72 v s) x e);
+          at = λ _. rw e (at_place v.store x e);
           counts = rw (k, q, m);
           below = rw (k, q, m);
         })
@@ -293,7 +284,7 @@ module _ {Setting State : Type 0} (r : Rules Setting State) (shape : Shape r) wh
       ]
     ]
 
-    -- a sector that is found: its frame is filled, the answer, and the view once the policy has used the frame, or where none is used
+    -- a sector that is found: its frame is filled, and the answer
     module _ (p : ℕ) (at : Some p ≡ found (held v.store) x) where
       pub hit_filled : v.store.pinned ≤ p → p - v.store.pinned < r.filled v.policy
       hit_filled low =
@@ -306,17 +297,9 @@ module _ {Setting State : Type 0} (r : Rules Setting State) (shape : Shape r) wh
           let l = live_served v.below x 512 (held_served q.0) in
           rw (answer_live v.below x 512 refl l.inside l.live, q.0, q.1)
 
-      pub hit_used : (w : View State) → v.store.pinned ≤ p → w ≡ used_frame r v (p - v.store.pinned) → w ≡ touched_view r v x
-      hit_used w low e =
-          let q = found_some (held v.store) x p at in
-          rw (q.0, ← q.1, le-ltb p v.store.pinned low) e
-
-      pub hit_pinned : p < v.store.pinned → v ≡ touched_view r v x
-      hit_pinned low = let q = found_some (held v.store) x p at in rw (q.0, ← q.1, lt-ltb p v.store.pinned low)
-
   -- every sector of a sound cache shows 512 bytes
   pub shown_sized : (v : View State) → Sound r v → Sized (seen v)
   shown_sized v s x inside = elim (cases_Bool (member x (held v.store))) [
-    | inl e ↦ rw e (s.holding.sized (place_in x (held v.store)) (at_place v.store s.holding.whole (used_72 v s) x e).0)
+    | inl e ↦ rw e (s.holding.sized (place_in x (held v.store)) (at_place v.store x e).0)
     | inr e ↦ rw e (s.sizes x inside)
   ]

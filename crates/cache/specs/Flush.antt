@@ -1,13 +1,14 @@
 -- What a flush does. Assumes nothing.
-use Rattle.std.specs.Prelude.{◌≡◌, ℕ, zero, suc, ◌<◌, Bool, false, cond, List, slice_index_or}
+use Rattle.std.specs.Prelude.{◌≡◌, ℕ, zero, suc, ◌<◌, false, cond}
 use Rattle.disk.specs.Meaning.{Meaning, raised}
-use Rattle.cache.specs.Places.{pins}
+use Rattle.cache.specs.Places.{used, place_at, pins}
+use Rattle.cache.specs.declared.store.Store.{Store}
 use Rattle.cache.specs.View.{View, seen, machine}
 
--- a tally raised as often as one of the first n marks is set
-abbrev pub raised_by : List Bool → ℕ → ℕ → ℕ
-raised_by marks zero w = w
-raised_by marks (suc n) w = cond (slice_index_or marks n false) (raised (raised_by marks n w)) (raised_by marks n w)
+-- a tally raised as often as one of the first n places is dirty
+abbrev pub raised_by : Store → ℕ → ℕ → ℕ
+raised_by s zero w = w
+raised_by s (suc n) w = cond (place_at s n).dirty (raised (raised_by s n w)) (raised_by s n w)
 
 -- A flush, in whatever order it writes: the cache is the same disk and frame machine with the same pins and F, no place is dirty, the
 -- disk below has the cache's bytes, and it has served one write for each place that was dirty, and no read.
@@ -16,10 +17,10 @@ pub record Flushed {State : Type 0} (v v' : View State) : Type 0 where
   pub stays : machine v' ≡ machine v
   pub pinned : pins v'.store ≡ pins v.store
   pub fetched : v'.fetched ≡ v.fetched
-  pub clean : (i : ℕ) → i < v'.store.used → slice_index_or v'.store.dirty i false ≡ false
+  pub clean : (i : ℕ) → i < used v'.store → (place_at v'.store i).dirty ≡ false
   pub bytes : v'.below.bytes ≡ (seen v).bytes
   pub reads : v'.below.reads ≡ v.below.reads
-  pub writes : v'.below.writes ≡ raised_by v.store.dirty v.store.used v.below.writes
+  pub writes : v'.below.writes ≡ raised_by v.store (used v.store) v.below.writes
 
 -- The disk that the end of a cache gives back: it is as a flush leaves it.
 pub record Ended {State : Type 0} (v : View State) (m : Meaning) : Type 0 where
@@ -27,4 +28,4 @@ pub record Ended {State : Type 0} (v : View State) (m : Meaning) : Type 0 where
   pub dead : m.dead ≡ v.below.dead
   pub bytes : m.bytes ≡ (seen v).bytes
   pub reads : m.reads ≡ v.below.reads
-  pub writes : m.writes ≡ raised_by v.store.dirty v.store.used v.below.writes
+  pub writes : m.writes ≡ raised_by v.store (used v.store) v.below.writes

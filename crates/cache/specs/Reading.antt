@@ -11,7 +11,7 @@ use Rattle.cache.specs.Promise.{Origin, Taken, Promise}
 
 module _ {D P Setting : Type 0} (d : disks.Ghosts D) (p : policies.Ghosts P Setting) where
   abbrev pub view : Cache D P → View p.State
-  view c = record { below = d.meaning c.below; policy = p.model c.policy; store = c.store; fetched = c.fetched; reads = c.reads; writes = c.writes }
+  view c = record { below = d.meaning c.below; policy = p.model c.policy; store = c.store; fetched = c.fetched; reads = c.tallies.reads; writes = c.tallies.writes }
 
   -- a cache that is sound, over a disk that is
   pub record Safe (c : Cache D P) : Type 0 where

@@ -1,9 +1,9 @@
 -- What a read or write turn does to a cache besides what it does to a disk. Assumes nothing.
-use Rattle.std.specs.Prelude.{◌≡◌, ℕ, Bool, false, cond, not, ◌&&◌, [], nat_lt, slice_index, slice_index_or}
+use Rattle.std.specs.Prelude.{◌≡◌, ℕ, Bool, cond, not, ◌&&◌, nat_lt}
 use Rattle.disk.specs.Meaning.{Meaning, raised, serves, read_one, written_one}
 use Rattle.base.specs.Lists.{member}
 use Rattle.policy.specs.Machine.{Rules, touch}
-use Rattle.cache.specs.Places.{pins, framed}
+use Rattle.cache.specs.Places.{used, place_at, pins, framed}
 use Rattle.cache.specs.View.{View, seen, machine}
 use Rattle.cache.specs.Steps.{next_place}
 
@@ -18,8 +18,8 @@ module _ {Setting State : Type 0} (r : Rules Setting State) where
 
   -- the disk below after a fetch: a read, and then a write of the sector that is put out, where that is dirty
   abbrev pub fetched_below : View State → Meaning
-  fetched_below v = cond (nat_lt (next_place r v) v.store.used && slice_index_or v.store.dirty (next_place r v) false)
-      (written_one (read_one v.below) (slice_index v.store.sectors (next_place r v)) (slice_index_or v.store.blocks (next_place r v) []))
+  fetched_below v = cond (nat_lt (next_place r v) (used v.store) && (place_at v.store (next_place r v)).dirty)
+      (written_one (read_one v.below) (place_at v.store (next_place r v)).sector (place_at v.store (next_place r v)).block)
       (read_one v.below)
 
   -- A read or write turn on sector x: it touches the frames or leaves them; a fetch, and no other turn, is counted and asks the disk below.

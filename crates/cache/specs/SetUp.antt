@@ -1,5 +1,5 @@
 -- A cache that is set up: what holds of it, what a pin does, and what it is once started. Assumes nothing.
-use Rattle.std.specs.Prelude.{◌≡◌, ℕ, ◌<◌, true, false, cond, List, [], ◌∷◌, ◌++◌, length, is_ok, Ok, Err, Result, nat_lt, slice_index_or}
+use Rattle.std.specs.Prelude.{◌≡◌, ℕ, ◌<◌, true, false, cond, List, [], ◌∷◌, ◌++◌, length, is_ok, Ok, Err, Result, nat_lt}
 use Rattle.base.specs.declared.refusal.Refusal.{Refusal}
 use Rattle.base.specs.declared.refusal.Refusal.TheVariants.{NoSuchSector, AlreadyPinned, PinPlacesTaken, DeadSector}
 use Rattle.base.specs.Geometries.{frames_of}
@@ -9,7 +9,7 @@ use Rattle.disk.specs.declared.disk.Disk as disks
 use Rattle.policy.specs.declared.policy.Policy as policies
 use Rattle.cache.specs.declared.set_up.SetUpCache.{SetUpCache}
 use Rattle.cache.specs.declared.cache.Cache.{Cache}
-use Rattle.cache.specs.Places.{pins}
+use Rattle.cache.specs.Places.{used, place_at, pins}
 use Rattle.cache.specs.View.{View, Sound, seen}
 use Rattle.cache.specs.Promise.{Origin, Taken}
 use Rattle.cache.specs.Reading.{view}
@@ -45,8 +45,8 @@ module _ {D P Setting : Type 0} (d : disks.Ghosts D) (p : policies.Ghosts P Sett
     pub own : Sound p.rules (set_up_view s)
     pub setting : Setting
     pub first : FirstState s setting
-    pub unfilled : s.store.used ≡ s.store.pinned
-    pub clean : (i : ℕ) → i < s.store.used → slice_index_or s.store.dirty i false ≡ false
+    pub unfilled : used s.store ≡ s.store.pinned
+    pub clean : (i : ℕ) → i < used s.store → (place_at s.store i).dirty ≡ false
 
   -- what a cache is started with
   abbrev pub origin : SetUpCache D P → Setting → Origin Setting

@@ -1,10 +1,10 @@
 -- What the parts of a turn do to a cache. Assumes nothing.
-use Rattle.std.specs.Prelude.{ℕ, ◌+◌, ◌-◌, false, cond, List, [], Ok, Err, Result, nat_lt, slice_index, slice_index_or}
+use Rattle.std.specs.Prelude.{ℕ, ◌+◌, ◌-◌, cond, List, Ok, Err, Result, nat_lt}
 use Rattle.base.specs.declared.refusal.Refusal.{Refusal}
 use Rattle.disk.specs.Meaning.{raised, serves, read_one, written_one}
 use Rattle.base.specs.Lists.{member, place_in}
 use Rattle.policy.specs.Machine.{Rules}
-use Rattle.cache.specs.Places.{held, installed, cleaned}
+use Rattle.cache.specs.Places.{used, place_at, held, installed, cleaned}
 use Rattle.cache.specs.View.{View}
 
 -- a read served below
@@ -13,13 +13,13 @@ looked_view v = record { below = read_one v.below; policy = v.policy; store = v.
 
 -- a dirty place written below, and clean
 abbrev pub backed_view : {State : Type 0} → View State → ℕ → View State
-backed_view v p = cond (slice_index_or v.store.dirty p false)
-    (record { below = written_one v.below (slice_index v.store.sectors p) (slice_index_or v.store.blocks p []); policy = v.policy; store = cleaned v.store p; fetched = v.fetched; reads = v.reads; writes = v.writes })
+backed_view v p = cond (place_at v.store p).dirty
+    (record { below = written_one v.below (place_at v.store p).sector (place_at v.store p).block; policy = v.policy; store = cleaned v.store p; fetched = v.fetched; reads = v.reads; writes = v.writes })
     v
 
 -- a place in use so
 abbrev pub vacated_view : {State : Type 0} → View State → ℕ → View State
-vacated_view v p = cond (nat_lt p v.store.used) (backed_view v p) v
+vacated_view v p = cond (nat_lt p (used v.store)) (backed_view v p) v
 
 module _ {Setting State : Type 0} (r : Rules Setting State) where
   -- a use of a frame

@@ -1,11 +1,11 @@
 -- A cache with the disk below and the policy by their meanings, and what holds of it between calls. Assumes nothing.
-use Rattle.std.specs.Prelude.{◌≡◌, ℕ, ◌+◌, ◌<◌, ◌≤◌, Bool, false, cond, List, [], length, slice_index, slice_index_or}
+use Rattle.std.specs.Prelude.{◌≡◌, ℕ, ◌+◌, ◌<◌, ◌≤◌, Bool, false, cond, List, length}
 use Rattle.disk.specs.Meaning.{Meaning, Sized}
 use Rattle.base.specs.Lists.{member, place_in}
 use Rattle.policy.specs.Machine.{Rules, Machine}
 use Rattle.policy.specs.Shape.{Reached}
 use Rattle.cache.specs.declared.store.Store.{Store}
-use Rattle.cache.specs.Places.{held, framed, Whole}
+use Rattle.cache.specs.Places.{used, place_at, held, framed}
 
 -- the disk below, the policy's state, the places, the fetches since start, and the cache's own tallies
 pub record View (State : Type 0) : Type 0 where
@@ -18,7 +18,7 @@ pub record View (State : Type 0) : Type 0 where
 
 -- the bytes that a cache shows of a sector: those of the place that holds it, else those below
 abbrev pub shown : Store → (ℕ → List ℕ) → ℕ → List ℕ
-shown s bytes x = cond (member x (held s)) (slice_index_or s.blocks (place_in x (held s)) []) (bytes x)
+shown s bytes x = cond (member x (held s)) (place_at s (place_in x (held s))).block (bytes x)
 
 -- a cache as a disk
 abbrev pub seen : {State : Type 0} → View State → Meaning
@@ -30,25 +30,24 @@ machine v = record { policy = v.policy; keys = framed v.store }
 
 -- what holds of a store over a disk of so many sectors, with these dead and these bytes
 pub record Holding (count : ℕ) (dead : ℕ → Bool) (bytes : ℕ → List ℕ) (s : Store) : Type 0 where
-  pub whole : Whole s
   -- no two places hold one sector, so that no pinned sector is in a frame
-  pub apart : (i j : ℕ) → i < s.used → j < s.used → slice_index s.sectors i ≡ slice_index s.sectors j → i ≡ j
+  pub apart : (i j : ℕ) → i < used s → j < used s → (place_at s i).sector ≡ (place_at s j).sector → i ≡ j
   -- what is held is a live sector of the disk, of 512 bytes
-  pub inside : (i : ℕ) → i < s.used → slice_index s.sectors i < count
-  pub live : (i : ℕ) → i < s.used → dead (slice_index s.sectors i) ≡ false
-  pub sized : (i : ℕ) → i < s.used → length (slice_index_or s.blocks i []) ≡ 512
+  pub inside : (i : ℕ) → i < used s → (place_at s i).sector < count
+  pub live : (i : ℕ) → i < used s → dead (place_at s i).sector ≡ false
+  pub sized : (i : ℕ) → i < used s → length (place_at s i).block ≡ 512
   -- a clean place has the disk's bytes
-  pub clean : (i : ℕ) → i < s.used → slice_index_or s.dirty i false ≡ false → slice_index_or s.blocks i [] ≡ bytes (slice_index s.sectors i)
+  pub clean : (i : ℕ) → i < used s → (place_at s i).dirty ≡ false → (place_at s i).block ≡ bytes (place_at s i).sector
 
 -- what holds of a policy beside a store with so many pinned sectors and so many places in use
-pub record Placing {Setting State : Type 0} (r : Rules Setting State) (policy : State) (pinned used : ℕ) : Type 0 where
+pub record Placing {Setting State : Type 0} (r : Rules Setting State) (policy : State) (pinned in_use : ℕ) : Type 0 where
   pub reached : Reached r policy
   pub most : r.frames policy ≤ 64
   pub few : pinned ≤ 8
-  pub filled : r.filled policy + pinned ≡ used
+  pub filled : r.filled policy + pinned ≡ in_use
 
 -- what holds of a cache between calls
 pub record Sound {Setting State : Type 0} (r : Rules Setting State) (v : View State) : Type 0 where
-  pub placing : Placing r v.policy v.store.pinned v.store.used
+  pub placing : Placing r v.policy v.store.pinned (used v.store)
   pub holding : Holding v.below.count v.below.dead v.below.bytes v.store
   pub sizes : Sized v.below

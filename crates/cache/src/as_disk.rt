@@ -17,7 +17,7 @@ impl<D: Disk, P: Policy> Disk for Cache<D, P> {
     }
 
     fn tallies(&self) -> Tallies {
-        Tallies::new(self.reads, self.writes)
+        self.tallies.snapshot()
     }
 
     fn read(&mut self, sector: u32, buffer: &mut [u8]) -> Result<(), Refusal> {

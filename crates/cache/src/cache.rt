@@ -1,5 +1,6 @@
 // A started cache: the disk below, the policy, the places in memory, the fetches since start, and the cache's own tallies.
 use crate::store::Store;
+use disk::Tallies;
 
 mod calls;
 mod places;
@@ -9,6 +10,5 @@ pub struct Cache<D, P> {
     pub(crate) policy: P,
     pub(crate) store: Store,
     pub(crate) fetched: u64,
-    pub(crate) reads: u64,
-    pub(crate) writes: u64,
+    pub(crate) tallies: Tallies,
 }

@@ -16,14 +16,8 @@ fn take_turn<D: Disk, P: Policy>(cache: &mut Cache<D, P>, turn: &mut Turn)
     ensures takes { TakesTurn D.Disk P.Policy cache.old turn.old turn.new cache.new }
 {
     match turn.request {
-        Request::Read => {
-            let answer = cache.read_sector(turn.sector, &mut turn.buffer);
-            turn.answer = Some(answer);
-        }
-        Request::Write => {
-            let answer = cache.write_sector(turn.sector, &turn.buffer);
-            turn.answer = Some(answer);
-        }
+        Request::Read => turn.answer = Some(cache.read_sector(turn.sector, &mut turn.buffer)),
+        Request::Write => turn.answer = Some(cache.write_sector(turn.sector, &turn.buffer)),
         Request::Flush => {
             cache.flush();
             turn.answer = Some(Ok(()));
@@ -41,8 +35,8 @@ pub fn run_turns<D: Disk, P: Policy>(
     ensures runs { Runs D.Disk P.Policy set_up turns.old turns.new result.0 }
 {
     let (mut cache, slip) = set_up.start();
-    for i in 0..turns.len() {
-        take_turn(&mut cache, &mut turns[i]);
+    for turn in turns.iter_mut() {
+        take_turn(&mut cache, turn);
     }
     (cache, slip)
 }

@@ -1,12 +1,21 @@
-// Sectors in memory, each with a dirty mark and its bytes: the pinned ones first, then those of the frames.
+// Sectors in memory: the pinned ones first, then those of the frames.
+use arrayvec::ArrayVec;
+use disk::SECTOR_BYTES;
+
 mod calls;
+
+// A sector that is held: its number, whether it is dirty, and its bytes.
+#[derive(Drop, Default)]
+pub struct Place {
+    pub sector: u32,
+    pub dirty: bool,
+    pub block: [u8; SECTOR_BYTES],
+}
 
 #[derive(Drop)]
 pub struct Store {
-    // how many places hold a pinned sector, and how many hold a sector at all
+    // how many of the places hold a pinned sector
     pub pinned: usize,
-    pub used: usize,
-    pub sectors: [u32; 72],
-    pub dirty: [bool; 72],
-    pub blocks: [[u8; 512]; 72],
+    // room for 64 frames and 8 pins
+    pub places: ArrayVec<Place, 72>,
 }

@@ -12,21 +12,20 @@ use super::Cache;
 use crate::slip::EndingSlip;
 use crate::store::Store;
 use base::Refusal;
-use disk::Disk;
+use disk::{Disk, SECTOR_BYTES, Tallies};
 use policy::Policy;
 
 impl<D: Disk, P: Policy> Cache<D, P> {
     pub(crate) fn new(below: D, policy: P, store: Store) -> Cache<D, P>
         ensures parts { (result.below ≡ below) × ((result.policy ≡ policy) × (result.store ≡ store)) }
-        ensures counts { (result.fetched ≡ 0) × ((result.reads ≡ 0) × (result.writes ≡ 0)) }
+        ensures counts { (result.fetched ≡ 0) × ((result.tallies.reads ≡ 0) × (result.tallies.writes ≡ 0)) }
     {
         Cache {
             below,
             policy,
             store,
             fetched: 0,
-            reads: 0,
-            writes: 0,
+            tallies: Tallies::new(0, 0),
         }
     }
 
@@ -39,12 +38,12 @@ impl<D: Disk, P: Policy> Cache<D, P> {
         ensures turned { Turned P.Policy.rules (view D.Disk P.Policy self.old) sector (length buffer.old) (view D.Disk P.Policy self.new) }
         ensures takes { Takes D.Disk P.Policy self.old Read sector buffer.old buffer.new result self.new }
     {
-        if buffer.len() != 512 {
+        if buffer.len() != SECTOR_BYTES {
             return Err(Refusal::BufferLength);
         }
         let place = self.touch(sector)?;
         self.store.copy_out(place, buffer);
-        self.reads = self.reads.saturating_add(1);
+        self.tallies.count_read();
         Ok(())
     }
 
@@ -56,12 +55,12 @@ impl<D: Disk, P: Policy> Cache<D, P> {
         ensures turned { Turned P.Policy.rules (view D.Disk P.Policy self.old) sector (length buffer.now) (view D.Disk P.Policy self.new) }
         ensures takes { Takes D.Disk P.Policy self.old Write sector buffer.now buffer.now result self.new }
     {
-        if buffer.len() != 512 {
+        if buffer.len() != SECTOR_BYTES {
             return Err(Refusal::BufferLength);
         }
         let place = self.touch(sector)?;
         self.store.copy_in(place, buffer);
-        self.writes = self.writes.saturating_add(1);
+        self.tallies.count_write();
         Ok(())
     }
 
@@ -72,8 +71,7 @@ impl<D: Disk, P: Policy> Cache<D, P> {
         ensures flushed { Flushed (view D.Disk P.Policy self.old) (view D.Disk P.Policy self.new) }
         ensures takes { (sector : ℕ) (buffer : List ℕ) → Takes D.Disk P.Policy self.old Flush sector buffer buffer (Ok tt) self.new }
     {
-        let used = self.store.used;
-        for place in 0..used {
+        for place in 0..self.store.used() {
             self.write_back(place);
         }
     }
@@ -101,8 +99,7 @@ impl<D: Disk, P: Policy + Drop> Cache<D, P> {
             policy: _,
             store: _,
             fetched: _,
-            reads: _,
-            writes: _,
+            tallies: _,
         } = self;
         below
     }

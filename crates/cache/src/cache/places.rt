@@ -1,30 +1,28 @@
 // Which place of the cache a turn works on: found, or fetched from below.
-ghost use Rattle.std.specs.Prelude.{◌≡◌, ℕ, ◌<◌, ◌≤◌, true, false, length, if◌then◌else◌, slice_index};
+ghost use Rattle.std.specs.Prelude.{◌≡◌, ℕ, ◌<◌, ◌≤◌, true, false, length, if◌then◌else◌};
 ghost use Rattle.disk.specs.Meaning.{answer, serves};
+ghost use Rattle.cache.specs.Places.{used, place_at};
 ghost use Rattle.cache.specs.Steps.{backed_view, fetched_view, touched_view, used_frame, next_place, place_of, with_place};
 ghost use Rattle.cache.specs.Reading.{view, Safe};
 
 use super::Cache;
 use base::Refusal;
-use disk::Disk;
+use disk::{Disk, SECTOR_BYTES};
 use policy::Policy;
 
 impl<D: Disk, P: Policy> Cache<D, P> {
     // Writes a place below if it is dirty. What is held is live, so the write is never refused.
     pub(crate) fn write_back(&mut self, place: usize)
-        requires within { place < 72 }
+        requires within { place < used self.old.store }
         requires under { D.Disk.sound self.old.below }
-        requires inside { slice_index self.old.store.sectors place < (D.Disk.meaning self.old.below).count }
-        requires live { (D.Disk.meaning self.old.below).dead (slice_index self.old.store.sectors place) ≡ false }
+        requires inside { (place_at self.old.store place).sector < (D.Disk.meaning self.old.below).count }
+        requires live { (D.Disk.meaning self.old.below).dead (place_at self.old.store place).sector ≡ false }
         ensures under { D.Disk.sound self.new.below }
         ensures after { view D.Disk P.Policy self.new ≡ backed_view (view D.Disk P.Policy self.old) place }
     {
-        if self.store.dirty[place] {
-            let sector = self.store.sectors[place];
-            match self.below.write(sector, &self.store.blocks[place]) {
-                Ok(()) => {}
-                Err(_) => unreachable(),
-            }
+        let held = &self.store.places[place];
+        if held.dirty {
+            self.below.write(held.sector, &held.block).unwrap();
             self.store.clean(place);
         }
     }
@@ -34,17 +32,20 @@ impl<D: Disk, P: Policy> Cache<D, P> {
     fn fetch(&mut self, sector: u32) -> Result<usize, Refusal>
         requires { Safe D.Disk P.Policy self.old }
         ensures under { D.Disk.sound self.new.below }
-        ensures answers { result ≡ with_place (answer (D.Disk.meaning self.old.below) sector 512) (next_place P.Policy.rules (view D.Disk P.Policy self.old)) }
-        ensures after { view D.Disk P.Policy self.new ≡ (if serves (D.Disk.meaning self.old.below) sector 512 then fetched_view P.Policy.rules (view D.Disk P.Policy self.old) sector else view D.Disk P.Policy self.old) }
+        ensures answers { result ≡ with_place (answer (D.Disk.meaning self.old.below) sector 512)
+            (next_place P.Policy.rules (view D.Disk P.Policy self.old)) }
+        ensures after { view D.Disk P.Policy self.new ≡ (if serves (D.Disk.meaning self.old.below) sector 512
+            then fetched_view P.Policy.rules (view D.Disk P.Policy self.old) sector
+            else view D.Disk P.Policy self.old) }
     {
-        let mut bytes = [0u8; 512];
+        let mut bytes = [0u8; SECTOR_BYTES];
         self.below.read(sector, &mut bytes)?;
         let frame = self.policy.place();
         let place = self.store.pinned + frame;
-        if place < self.store.used {
+        if place < self.store.used() {
             self.write_back(place);
         }
-        self.store.install(place, sector, &bytes);
+        self.store.install(place, sector, bytes);
         self.fetched = self.fetched.saturating_add(1);
         Ok(place)
     }
@@ -53,7 +54,8 @@ impl<D: Disk, P: Policy> Cache<D, P> {
     pub(crate) fn touch(&mut self, sector: u32) -> Result<usize, Refusal>
         requires { Safe D.Disk P.Policy self.old }
         ensures under { D.Disk.sound self.new.below }
-        ensures answers { result ≡ with_place (answer (D.Disk.meaning self.old.below) sector 512) (place_of P.Policy.rules (view D.Disk P.Policy self.old) sector) }
+        ensures answers { result ≡ with_place (answer (D.Disk.meaning self.old.below) sector 512)
+            (place_of P.Policy.rules (view D.Disk P.Policy self.old) sector) }
         ensures after { view D.Disk P.Policy self.new ≡ touched_view P.Policy.rules (view D.Disk P.Policy self.old) sector }
     {
         match self.store.find(sector) {
@@ -74,9 +76,6 @@ impl<D: Disk, P: Policy> Cache<D, P> {
         ensures under { D.Disk.sound self.new.below }
         ensures after { view D.Disk P.Policy self.new ≡ used_frame P.Policy.rules (view D.Disk P.Policy self.old) frame }
     {
-        match self.policy.use_frame(frame) {
-            Ok(()) => {}
-            Err(_) => unreachable(),
-        }
+        self.policy.use_frame(frame).unwrap();
     }
 }

@@ -10,7 +10,7 @@ use crate::cache::Cache;
 use crate::slip::EndingSlip;
 use crate::store::Store;
 use base::{Geometry, Refusal};
-use disk::Disk;
+use disk::{Disk, SECTOR_BYTES};
 use policy::Policy;
 
 impl<D: Disk, P: Policy> SetUpCache<D, P> {
@@ -39,20 +39,21 @@ impl<D: Disk, P: Policy> SetUpCache<D, P> {
         requires { Ready D.Disk P.Policy self.old }
         ensures kept { Ready D.Disk P.Policy self.new }
         ensures geometry { self.new.geometry ≡ self.old.geometry }
-        ensures pinned { Pinned (set_up_view D.Disk P.Policy self.old) (pins_of self.old.geometry) sector result (set_up_view D.Disk P.Policy self.new) }
+        ensures pinned { Pinned (set_up_view D.Disk P.Policy self.old) (pins_of self.old.geometry) sector result
+            (set_up_view D.Disk P.Policy self.new) }
     {
         if sector >= self.below.count() {
             return Err(Refusal::NoSuchSector);
         }
-        if let Some(_) = self.store.find(sector) {
+        if self.store.find(sector).is_some() {
             return Err(Refusal::AlreadyPinned);
         }
         if self.store.pinned >= self.geometry.pins() {
             return Err(Refusal::PinPlacesTaken);
         }
-        let mut bytes = [0u8; 512];
+        let mut bytes = [0u8; SECTOR_BYTES];
         self.below.read(sector, &mut bytes)?;
-        self.store.pin(sector, &bytes);
+        self.store.pin(sector, bytes);
         Ok(())
     }
 

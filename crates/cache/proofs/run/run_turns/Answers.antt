@@ -6,36 +6,29 @@ use Rattle.cache.proofs.Promises.{promise_of}
 use Rattle.cache.proofs.Turnwise.{taking_none, taking_more, taking_all, all_alone}
 use Rattle.cache.proofs.run.run_turns.Goals as goal
 
-pub take_turn-requires : goal.take_turn-requires
-take_turn-requires g c = c.loop-i.invariant.0
+pub loop-turn-init : goal.loop-turn-init
+loop-turn-init g c = (c.start-cache.ensures.safe, taking_none g.D.Disk g.P.Policy _ _)
 
-pub loop-i-init : goal.loop-i-init
-loop-i-init g c = (c.start-cache.ensures.safe, taking_none g.D.Disk g.P.Policy _ _)
-
-pub loop-i-preserved : goal.loop-i-preserved
-loop-i-preserved g c =
-    let h : c.loop-i.i < length c.loop-i.turns = omega arith in (
+pub loop-turn-preserved : goal.loop-turn-preserved
+loop-turn-preserved g c =
+    let h : c.loop-turn.turn-index < length c.loop-turn.turns = omega arith in (
       c.take_turn.ensures.kept,
-      taking_more g.D.Disk g.P.Policy _ _ _ _ _ c.loop-i.invariant.1 c.index-turns-i.result _ c.take_turn.new.turn _ h refl c.take_turn.ensures.takes,
+      taking_more g.D.Disk g.P.Policy _ _ _ _ _ c.loop-turn.invariant.1 c.turn-item.result _ c.take_turn.new.turn _ h refl c.take_turn.ensures.takes,
     )
 
-pub returns : goal.returns
-returns g c =
+pub returns-clause-runs : goal.returns-clause-runs
+returns-clause-runs g c setting first =
     let d = g.D.Disk in
     let p = g.P.Policy in
-    let h : length c.args.turns.now ≤ c.loop-i.i = omega arith in
-    let q = c.loop-i.invariant.1 in
+    let h : length c.args.turns.now ≤ c.loop-turn.turn-index = omega arith in
+    let q = c.loop-turn.invariant.1 in
+    let o = origin d p c.args.set_up setting in
     let all = taking_all d p _ _ _ _ _ q h in
+    let t = q.takes o (c.start-cache.ensures.begins.taken setting first) in
     record {
-      safe = c.loop-i.invariant.0;
-      runs = λ setting first.
-          let o = origin d p c.args.set_up setting in
-          let t = q.takes o (c.start-cache.ensures.begins.taken setting first) in
-          record {
-            events = q.events;
-            reported = all;
-            alone = all_alone o.disk done all t.answers;
-            taken = t;
-            promise = promise_of p.rules g.met.P.Policy.conservative o q.events (view d p c.loop-i.cache) t;
-          };
+      events = q.events;
+      reported = all;
+      alone = all_alone o.disk done all t.answers;
+      taken = t;
+      promise = promise_of p.rules g.met.P.Policy.conservative o q.events (view d p c.loop-turn.cache) t;
     }

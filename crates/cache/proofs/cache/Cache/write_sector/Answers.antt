@@ -1,8 +1,8 @@
 use Rattle.std.proofs.Common.{Err, sym, refl, ap, ◌∙◌, arith}
 use Rattle.std.proofs.lemmas.Result.{err_from_is_err_and}
 use Rattle.cache.specs.Reading.{view}
-use Rattle.cache.proofs.Takings.{taken_more, write_step}
-use Rattle.cache.proofs.Requests.{Asked, touched_is, turned, short_answer, short_write, short_turned, refused_answer, refused_write, accepted_answer, place_72, write_sound, write_after, write_turned}
+use Rattle.cache.proofs.Takings.{write_taken}
+use Rattle.cache.proofs.Requests.{Asked, touched_is, turned, short_answer, short_turned, refused_answer, refused_write, accepted_answer, accepted_at, write_sound, write_after, write_turned}
 use Rattle.cache.proofs.cache.Cache.write_sector.Given as given
 use Rattle.cache.proofs.cache.Cache.write_sector.Goals as goal
 use Rattle.cache.proofs.cache.Cache.write_sector.Goals.{After-touch}
@@ -12,56 +12,50 @@ asked : (g : given.Over) (c : After-touch g) → Asked g.P.Policy.rules (view g.
 asked g c = record
     { shape = g.met.P.Policy.shape; sound = c.requires.own; long = omega arith; is = c.touch.ensures.after }
 
-pub returns-then-buffer-ne512 : goal.returns-then-buffer-ne512
-returns-then-buffer-ne512 g c =
+pub returns-then-buffer-ne-SECTOR_BYTES-clause-takes : goal.returns-then-buffer-ne-SECTOR_BYTES-clause-takes
+returns-then-buffer-ne-SECTOR_BYTES-clause-takes g c =
     let r = g.P.Policy.rules in
     let v = view g.D.Disk g.P.Policy c.args.self.now in
     let x = c.args.sector in
     let b = c.args.buffer.now in
-    let short = c.if-buffer-ne512.true in
-    let answers = short_answer r v x b short in
-    let after = short_write r v x b short in
-    let done = short_turned r v x b short in
-    record {
-      kept = c.requires;
-      answers = answers;
-      after = after;
-      turned = done;
-      takes = λ o es t. taken_more r o es v v _ t (write_step r v v x b _ answers done after);
-    }
+    let answers = short_answer r v x b c.if-buffer-ne-SECTOR_BYTES.true in
+    write_taken r v v x b _ answers (short_turned r v x b c.if-buffer-ne-SECTOR_BYTES.true) (refused_write v v x b refl _ answers)
 
 pub returns-in_err-place : goal.returns-in_err-place
 returns-in_err-place g c =
     let q = asked g (goal.at.returns-in_err-place g c).After-touch in
+    let v = view g.D.Disk g.P.Policy c.args.self.now in
+    let w = view g.D.Disk g.P.Policy c.touch.new.self in
     let p = err_from_is_err_and c.from_residual.result c.from_residual.ensures.1 in
-    let refused = sym c.in_err-place.was ∙ c.touch.ensures.answers in
-    let answers = p.1 ∙ ap Err p.2 ∙ refused_answer q _ refused in
+    let refused = refused_answer q _ (sym c.in_err-place.was ∙ c.touch.ensures.answers) in
+    let answers = p.1 ∙ ap Err p.2 ∙ refused in
+    let after = refused_write v w _ _ (touched_is q).shows _ refused in
     let done = turned q _ refl refl refl refl in
     record {
       kept = record { under = c.touch.ensures.under; own = (touched_is q).sound };
       answers = answers;
-      after = refused_write q _ refused;
+      after = after;
       turned = done;
-      takes = λ o es t. taken_more g.P.Policy.rules o es _ _ _ t (write_step g.P.Policy.rules _ _ _ _ _ answers done (refused_write q _ refused));
+      takes = write_taken g.P.Policy.rules _ _ _ _ _ answers done after;
     }
 
 pub copy_in-requires : goal.copy_in-requires
 copy_in-requires g c =
     let q = asked g (goal.at.copy_in-requires g c).After-touch in
-    (place_72 q _ (sym c.in_ok-place.was ∙ c.touch.ensures.answers), q.long)
+    ((accepted_at q _ (sym c.in_ok-place.was ∙ c.touch.ensures.answers)).0, q.long)
 
 pub returns : goal.returns
 returns g c =
     let q = asked g (goal.at.returns g c).After-touch in
     let accepted = sym c.in_ok-place.was ∙ c.touch.ensures.answers in
-    let n = c.saturating_add-self.result in
+    let t = c.count_write.new.self in
     let answers = accepted_answer q _ accepted in
-    let after = write_after q _ accepted _ c.copy_in.ensures n c.saturating_add-self.ensures in
-    let done = write_turned q _ accepted _ c.copy_in.ensures n in
+    let after = write_after q _ accepted _ c.copy_in.ensures t c.count_write.ensures.reads c.count_write.ensures.writes in
+    let done = write_turned q _ accepted _ c.copy_in.ensures t in
     record {
-      kept = record { under = c.touch.ensures.under; own = write_sound q _ accepted _ c.copy_in.ensures n };
+      kept = record { under = c.touch.ensures.under; own = write_sound q _ accepted _ c.copy_in.ensures t };
       answers = answers;
       after = after;
       turned = done;
-      takes = λ o es t. taken_more g.P.Policy.rules o es _ _ _ t (write_step g.P.Policy.rules _ _ _ _ _ answers done after);
+      takes = write_taken g.P.Policy.rules _ _ _ _ _ answers done after;
     }
