@@ -1,6 +1,8 @@
-// Takes turns of one kind through a cache of 64 frames over an image of 128 sectors, and prints F, with a sum of the bytes that went through
-// the buffer and one of the image at the end. The arguments are the number of turns and the kind.
+// Takes turns of one kind through a cache of 64 frames over an image of 128 sectors, and prints F, with a sum of the
+// bytes that went through the buffer and one of the image at the end. The arguments are the number of turns and the kind.
 #![tactic(auto)]
+
+mod kind;
 
 ghost use Rattle.std.specs.Prelude.{◌≡◌, ◌≤◌, length};
 ghost use Rattle.cache.specs.Reading.{Safe};
@@ -8,37 +10,15 @@ ghost use Rattle.cache.specs.Reading.{Safe};
 use anyhow::anyhow;
 use base::Geometry;
 use cache::{Cache, SetUpCache};
-use disk::{Disk, ImageDisk};
+use disk::{Disk, ImageDisk, SECTOR_BYTES};
+use kind::Kind;
 use policy::{Lru, Policy};
 use std::alloc::{AllocError, Global};
 use std::env;
 
 const FRAMES: usize = 64;
 
-const IMAGE_BYTES: usize = 128 * 512;
-
-#[derive(Clone, Copy)]
-enum Kind {
-    // Reads of as many sectors as there are frames: once they are held, every turn is a hit.
-    Hit,
-    // Reads of twice as many sectors: every turn fetches and, once the frames are full, puts a clean sector out.
-    Clean,
-    // Writes of the same: every turn fetches and puts a dirty sector out.
-    Dirty,
-}
-
-fn kind_of(name: &str) -> anyhow::Result<Kind> {
-    if name == "hit" {
-        return Ok(Kind::Hit);
-    }
-    if name == "clean" {
-        return Ok(Kind::Clean);
-    }
-    if name == "dirty" {
-        return Ok(Kind::Dirty);
-    }
-    Err(anyhow!("the kind is hit, clean or dirty"))
-}
+const IMAGE_BYTES: usize = 128 * SECTOR_BYTES;
 
 // Reads sectors 0 to `sectors` - 1 in turn, over and over. Answers a sum of bytes that were read, so that no copy is left out as unused.
 fn read_turns<D: Disk, P: Policy>(
@@ -55,7 +35,7 @@ fn read_turns<D: Disk, P: Policy>(
     let mut sum = 0u8;
     for turn in 0..turns {
         let _ = cache.read_sector(turn % sectors, buffer);
-        sum = sum.wrapping_add(buffer[turn as usize % 512]);
+        sum = sum.wrapping_add(buffer[turn as usize % SECTOR_BYTES]);
     }
     sum
 }
@@ -75,56 +55,35 @@ fn write_turns<D: Disk, P: Policy>(
     let mut sum = 0u8;
     for turn in 0..turns {
         sum = sum.wrapping_add(1);
-        buffer[turn as usize % 512] = sum;
+        buffer[turn as usize % SECTOR_BYTES] = sum;
         let _ = cache.write_sector(turn % sectors, buffer);
     }
     sum
 }
 
-fn run_turns<D: Disk, P: Policy + Drop>(
-    geometry: Geometry,
-    disk: D,
-    setting: P::Setting,
-    turns: u32,
-    kind: Kind,
-) -> (D, u64, u8)
-    requires { D.Disk.sound disk }
-    ensures { D.Disk.sound result.0 }
-{
-    let set_up: SetUpCache<D, P> = SetUpCache::new(geometry, disk, setting);
+// F, and the sum of the bytes that went through the buffer.
+fn run_turns(geometry: Geometry, image: &mut [u8], turns: u32, kind: Kind) -> (u64, u8) {
+    let disk = ImageDisk::new(image, &[]);
+    let set_up = SetUpCache::<ImageDisk<'_>, Lru>::new(geometry, disk, ());
     let (mut cache, slip) = set_up.start();
-    let mut buffer = [0u8; 512];
+    let mut buffer = [0u8; SECTOR_BYTES];
     let sum = match kind {
-        Kind::Hit => read_turns(&mut cache, turns, 64, &mut buffer),
+        Kind::Hit => read_turns(&mut cache, turns, FRAMES as u32, &mut buffer),
         Kind::Clean => read_turns(&mut cache, turns, 128, &mut buffer),
         Kind::Dirty => write_turns(&mut cache, turns, 128, &mut buffer),
     };
     let fetches = cache.fetches();
-    (cache.end(slip), fetches, sum)
-}
-
-fn run_image(geometry: Geometry, image: &mut [u8], turns: u32, kind: Kind) -> (u64, u8) {
-    let dead: [u32; 0] = [];
-    let disk = ImageDisk::new(image, &dead);
-    let (_disk, fetches, sum) = run_turns::<ImageDisk<'_>, Lru>(geometry, disk, (), turns, kind);
+    drop(cache.end(slip));
     (fetches, sum)
 }
 
 fn image_of(heap: Global) -> Result<Vec<u8>, AllocError> {
-    let mut image = Vec::with_capacity(heap, IMAGE_BYTES)?;
-    for at in 0..IMAGE_BYTES {
-        image.push((at % 251) as u8)?;
-    }
-    Ok(image)
+    (0..IMAGE_BYTES).map(|at| (at % 251) as u8).collect(heap)
 }
 
 // The byte that every place of an image adds up to.
 fn sum_of(image: &[u8]) -> u8 {
-    let mut sum = 0u8;
-    for byte in image {
-        sum = sum.wrapping_add(*byte);
-    }
-    sum
+    image.iter().fold(0u8, |sum, byte| sum.wrapping_add(*byte))
 }
 
 fn arguments(rt: &HostRuntime) -> anyhow::Result<(u32, Kind)> {
@@ -136,7 +95,10 @@ fn arguments(rt: &HostRuntime) -> anyhow::Result<(u32, Kind)> {
     let Some(kind) = args.next() else {
         return Err(anyhow!("give the number of turns and their kind"));
     };
-    Ok((turns.as_str().parse::<u32>()?, kind_of(kind.as_str())?))
+    Ok((
+        turns.as_str().parse::<u32>()?,
+        kind.as_str().parse::<Kind>()?,
+    ))
 }
 
 fn run(rt: &HostRuntime) -> anyhow::Result<()> {
@@ -145,7 +107,7 @@ fn run(rt: &HostRuntime) -> anyhow::Result<()> {
         return Err(anyhow!("no such geometry"));
     };
     let mut image = image_of(rt.alloc())?;
-    let (fetches, sum) = run_image(geometry, &mut image, turns, kind);
+    let (fetches, sum) = run_turns(geometry, &mut image, turns, kind);
     let left = sum_of(&image);
     println!(rt; "F is {fetches}, sums {sum} and {left}")?;
     Ok(())

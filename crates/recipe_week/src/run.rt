@@ -1,14 +1,14 @@
 // Planning, the run through the cache, and the end.
-use crate::tasks::{PINNED, SECTOR_BYTES, SECTORS, TASKS, touches_of, turns_of};
+use crate::tasks::{PINNED, SECTORS, TASKS, touches_of, turns_of};
 use anyhow::anyhow;
 use base::{Geometry, Sector, VolumeKey};
 use cache::{SetUpCache, run_turns};
-use disk::{Disk, ImageDisk, Tallies, Turn, serve_turns};
-use index::Slot;
+use disk::{Disk, ImageDisk, SECTOR_BYTES, Tallies, Turn, serve_turns};
 use planning::{Plan, plan_touches};
-use policy::{Lru, Policy};
+use policy::Lru;
 use std::alloc::Global;
 use std::io;
+use workspace::Workspace;
 
 // The machine's cache, and the smaller one that the plan's schedule has.
 const FRAMES: usize = 4;
@@ -25,36 +25,16 @@ pub struct Outcome {
 }
 
 fn plan_for(heap: Global, touches: &[Sector]) -> anyhow::Result<Plan> {
-    let mut slots = vec![in heap; Slot::Free; 8192]?;
-    let mut next = vec![in heap; 0u32; 4096]?;
-    let mut held = vec![in heap; 0u32; 64]?;
-    let mut serving = vec![in heap; 0u8; 4096]?;
-    match plan_touches(
-        touches,
-        FRAMES,
-        SMALLER,
-        &mut slots,
-        &mut next,
-        &mut held,
-        &mut serving,
-    ) {
-        Ok(plan) => Ok(plan),
-        Err(_) => Err(anyhow!("the plan is refused")),
-    }
+    let mut workspace = Workspace::new(heap)?;
+    plan_touches(touches, FRAMES, SMALLER, &mut workspace.lists()).map_err(|refusal| anyhow!(
+        "the plan is refused by {refusal}"
+    ))
 }
 
-// Runs the turns through a cache over a disk of any kind, then reads one sector directly and ends the cache. Answers F, and gives the
-// disk back.
-fn run_cached<D: Disk, P: Policy + Drop>(
-    geometry: Geometry,
-    disk: D,
-    setting: P::Setting,
-    turns: &mut [Turn],
-) -> (D, u64)
-    requires { D.Disk.sound disk }
-    ensures { D.Disk.sound result.0 }
-{
-    let mut set_up: SetUpCache<D, P> = SetUpCache::new(geometry, disk, setting);
+// Runs the turns through a cache over the image, by LRU, then reads one sector directly and ends the cache.
+fn run_cached(geometry: Geometry, image: &mut [u8], turns: &mut [Turn]) -> Outcome {
+    let disk = ImageDisk::new(image, &[]);
+    let mut set_up = SetUpCache::<ImageDisk<'_>, Lru>::new(geometry, disk, ());
     let _ = set_up.pin(PINNED);
     let (mut cache, slip) = run_turns(set_up, turns);
     let mut buffer = [0u8; SECTOR_BYTES];
@@ -62,21 +42,14 @@ fn run_cached<D: Disk, P: Policy + Drop>(
     cache.flush();
     let fetches = cache.fetches();
     let disk = cache.end(slip);
-    (disk, fetches)
-}
-
-// The same over the image, by LRU.
-fn run_image(geometry: Geometry, image: &mut [u8], turns: &mut [Turn]) -> Outcome {
-    let dead: [u32; 0] = [];
-    let disk = ImageDisk::new(image, &dead);
-    let (disk, fetches) = run_cached::<ImageDisk<'_>, Lru>(geometry, disk, (), turns);
-    let below = disk.tallies();
-    Outcome { fetches, below }
+    Outcome {
+        fetches,
+        below: disk.tallies(),
+    }
 }
 
 fn run_alone(image: &mut [u8], turns: &mut [Turn]) -> Tallies {
-    let dead: [u32; 0] = [];
-    let mut disk = ImageDisk::new(image, &dead);
+    let mut disk = ImageDisk::new(image, &[]);
     serve_turns(&mut disk, turns)
 }
 
@@ -85,11 +58,12 @@ fn yes_or_no(b: bool) -> &'static str {
 }
 
 fn print_outcome(rt: &HostRuntime, plan: Plan, outcome: Outcome) -> io::Result<()> {
-    let fetches = outcome.fetches;
-    let reads = outcome.below.reads;
-    let writes = outcome.below.writes;
-    let within = yes_or_no(outcome.fetches <= plan.ceiling);
-    println!(rt; "  F is {fetches}; below, {reads} reads and {writes} writes were served")?;
+    let Outcome { fetches, below } = outcome;
+    let within = yes_or_no(fetches <= plan.ceiling);
+    println!(rt;
+        "  F is {fetches}; below, {} reads and {} writes were served",
+        below.reads, below.writes
+    )?;
     println!(rt; "  within the ceiling: {within}")
 }
 
@@ -100,11 +74,12 @@ pub fn run_week(rt: &HostRuntime, keys: &[VolumeKey]) -> anyhow::Result<()> {
     let touches = touches_of(heap, keys)?;
     let unpinned = touches.len();
     let plan = plan_for(heap, &touches)?;
-    let fewest = plan.fetches;
-    let ceiling = plan.ceiling;
     println!(rt; "Wednesday: the plan for {FRAMES} frames, by a schedule on {SMALLER}")?;
     println!(rt; "  {count} touches recorded, {unpinned} of them on sectors that are not pinned")?;
-    println!(rt; "  fewest fetches {fewest}, ceiling {ceiling}")?;
+    println!(rt;
+        "  fewest fetches {}, ceiling {}",
+        plan.fetches, plan.ceiling
+    )?;
     let Ok(geometry) = Geometry::new(FRAMES, 1) else {
         return Err(anyhow!("no such geometry"));
     };
@@ -112,7 +87,7 @@ pub fn run_week(rt: &HostRuntime, keys: &[VolumeKey]) -> anyhow::Result<()> {
     let mut again = turns_of(heap, keys)?;
     let mut image = vec![in heap; 0u8; IMAGE_BYTES]?;
     let mut alone = vec![in heap; 0u8; IMAGE_BYTES]?;
-    let outcome = run_image(geometry, &mut image, &mut turns);
+    let outcome = run_cached(geometry, &mut image, &mut turns);
     println!(rt;
         "Thursday: {TASKS} tasks take {count} turns over {SECTORS} sectors, sector {PINNED} pinned"
     )?;

@@ -1,9 +1,7 @@
 // The recorded touches as turns of six tasks, each touch a turn, and the plan's list of the touches that a cache sees.
 use base::{Sector, VolumeKey};
-use disk::{Request, Turn};
+use disk::{Request, SECTOR_BYTES, Turn};
 use std::alloc::{AllocError, Global};
-
-pub const SECTOR_BYTES: usize = 512;
 
 // The image has so many sectors; a recorded sector number is folded into it.
 pub const SECTORS: u32 = 64;
@@ -51,12 +49,9 @@ pub fn turns_of(heap: Global, keys: &[VolumeKey]) -> Result<Vec<Turn>, AllocErro
 
 // The touches that the cache sees, as plain sectors.
 pub fn touches_of(heap: Global, keys: &[VolumeKey]) -> Result<Vec<Sector>, AllocError> {
-    let mut touches = Vec::new(heap);
-    for key in keys {
-        let number = image_sector(key);
-        if number != PINNED {
-            touches.push(Sector { number })?;
-        }
-    }
-    Ok(touches)
+    keys.iter()
+        .map(image_sector)
+        .filter(|number| *number != PINNED)
+        .map(|number| Sector { number })
+        .collect(heap)
 }

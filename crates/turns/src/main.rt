@@ -1,8 +1,7 @@
 // Serves turns of several tasks on two images joined to one disk, and prints each turn with its answer, then the tallies.
 #![tactic(auto)]
 
-use base::Refusal;
-use disk::{Disk, ImageDisk, JoinedDisk, Request, Turn, serve_turns};
+use disk::{Disk, ImageDisk, JoinedDisk, Request, SECTOR_BYTES, Turn, serve_turns};
 use std::alloc::{AllocError, Global};
 use std::io;
 
@@ -27,40 +26,30 @@ fn turn(
 
 // What is served: the first image has sectors 0 and 1, the second 2 to 4, of which sector 3 is dead.
 fn turns_of_tasks(heap: Global) -> Result<Vec<Turn>, AllocError> {
-    let mut turns = Vec::with_capacity(heap, 8)?;
-    turns.push(turn(heap, 1, Request::Write, 1, 17, 512)?)?;
-    turns.push(turn(heap, 2, Request::Write, 2, 34, 512)?)?;
-    turns.push(turn(heap, 3, Request::Read, 2, 0, 512)?)?;
-    turns.push(turn(heap, 1, Request::Write, 3, 51, 512)?)?;
-    turns.push(turn(heap, 2, Request::Read, 5, 0, 512)?)?;
-    turns.push(turn(heap, 3, Request::Read, 5, 0, 511)?)?;
-    turns.push(turn(heap, 1, Request::Flush, 0, 0, 0)?)?;
-    turns.push(turn(heap, 2, Request::Read, 1, 0, 512)?)?;
-    Ok(turns)
-}
-
-fn name_of(request: Request) -> &'static str {
-    match request {
-        Request::Read => "read",
-        Request::Write => "write",
-        Request::Flush => "flush",
-    }
+    Ok(vec![in heap;
+        turn(heap, 1, Request::Write, 1, 17, SECTOR_BYTES)?,
+        turn(heap, 2, Request::Write, 2, 34, SECTOR_BYTES)?,
+        turn(heap, 3, Request::Read, 2, 0, SECTOR_BYTES)?,
+        turn(heap, 1, Request::Write, 3, 51, SECTOR_BYTES)?,
+        turn(heap, 2, Request::Read, 5, 0, SECTOR_BYTES)?,
+        turn(heap, 3, Request::Read, 5, 0, SECTOR_BYTES - 1)?,
+        turn(heap, 1, Request::Flush, 0, 0, 0)?,
+        turn(heap, 2, Request::Read, 1, 0, SECTOR_BYTES)?,
+    ]?)
 }
 
 fn print_turn(rt: &HostRuntime, turn: &Turn) -> io::Result<()> {
-    let task = turn.task;
-    let request = name_of(turn.request);
-    let sector = turn.sector;
-    let first = turn.buffer.first().copied().unwrap_or(0);
+    print!(rt;
+        "task {}: {} sector {}: ",
+        turn.task, turn.request, turn.sector
+    )?;
     match turn.answer {
-        Some(Ok(())) => println!(rt;
-            "task {task}: {request} sector {sector}: served, first byte {first}"
-        ),
-        Some(Err(refusal)) => {
-            let number = refusal.number();
-            println!(rt; "task {task}: {request} sector {sector}: refused by {number}")
+        Some(Ok(())) => {
+            let first = turn.buffer.first().copied().unwrap_or(0);
+            println!(rt; "served, first byte {first}")
         }
-        None => println!(rt; "task {task}: {request} sector {sector}: not taken"),
+        Some(Err(refusal)) => println!(rt; "refused by {refusal}"),
+        None => println!(rt; "not taken"),
     }
 }
 
@@ -78,9 +67,10 @@ fn run(rt: &HostRuntime) -> anyhow::Result<()> {
     for turn in &turns {
         print_turn(rt, turn)?;
     }
-    let reads = tallies.reads;
-    let writes = tallies.writes;
-    println!(rt; "served: {reads} reads, {writes} writes")?;
+    println!(rt;
+        "served: {} reads, {} writes",
+        tallies.reads, tallies.writes
+    )?;
     Ok(())
 }
 

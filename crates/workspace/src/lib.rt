@@ -1,0 +1,59 @@
+// The lists that the programs lend to the library, on the heap: places for the longest list of touches, and for as many
+// frames as a cache can have.
+#![tactic(auto)]
+
+ghost use Rattle.std.specs.Prelude.{◌≡◌, IfOk};
+ghost use Rattle.workspace.specs.Sizes.{Sized};
+
+use base::Key;
+use index::Slot;
+use planning::{Lists, MOST_TOUCHES};
+use std::alloc::{AllocError, Global};
+
+// One byte past the longest trace shows that a trace is too long.
+pub const MOST_BYTES: u64 = 32_769;
+
+// More than a third of the slots stay free, so that the index answers in a constant number of steps.
+const SLOTS: usize = 8192;
+
+const MOST_FRAMES: usize = 64;
+
+#[cfg(test)]
+mod tests;
+
+#[derive(Drop)]
+pub struct Workspace<K> {
+    slots: Vec<Slot<K>>,
+    next: Vec<u32>,
+    held: Vec<u32>,
+    serving: Vec<u8>,
+}
+
+impl<K: Key> Workspace<K> {
+    // What the lists have at first does not matter: each call writes what it reads.
+    pub fn new(heap: Global) -> Result<Workspace<K>, AllocError>
+        ensures { IfOk result Sized }
+    {
+        Ok(Workspace {
+            slots: vec![in heap; None; SLOTS]?,
+            next: vec![in heap; 0; MOST_TOUCHES]?,
+            held: vec![in heap; 0; MOST_FRAMES]?,
+            serving: vec![in heap; 0; MOST_TOUCHES]?,
+        })
+    }
+
+    // All four, to be lent to a call.
+    pub fn lists(&mut self) -> Lists<'_, K>
+        ensures slots { result.slots.now ≡ self.old.slots.items }
+        ensures next { result.next.now ≡ self.old.next.items }
+        ensures held { result.held.now ≡ self.old.held.items }
+        ensures serving { result.serving.now ≡ self.old.serving.items }
+    {
+        Lists {
+            slots: &mut self.slots,
+            next: &mut self.next,
+            held: &mut self.held,
+            serving: &mut self.serving,
+        }
+    }
+}
