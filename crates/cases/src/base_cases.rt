@@ -1,23 +1,22 @@
 // Geometries at their bounds, and the numbers of refusals.
 use base::{Geometry, Refusal};
+use std::alloc::AllocError;
 
-// What a geometry is refused with, or 0, its frames and its pin places.
-fn judged(frames: usize, pins: usize) -> (u8, usize, usize) {
-    match Geometry::new(frames, pins) {
-        Ok(g) => (0, g.frames(), g.pins()),
-        Err(refusal) => (refusal.number(), 0, 0),
-    }
+// The frames and the pin places of a geometry.
+fn judged(frames: usize, pins: usize) -> Result<(usize, usize), Refusal> {
+    let geometry = Geometry::new(frames, pins)?;
+    Ok((geometry.frames(), geometry.pins()))
 }
 
 #[test]
 fn geometry_has_bounds(rt: HostRuntime) {
-    assert_eq!(rt; judged(0, 0), (1, 0, 0));
-    assert_eq!(rt; judged(1, 0), (0, 1, 0));
-    assert_eq!(rt; judged(64, 8), (0, 64, 8));
-    assert_eq!(rt; judged(65, 8), (1, 0, 0));
-    assert_eq!(rt; judged(64, 9), (2, 0, 0));
-    assert_eq!(rt; judged(65, 9), (1, 0, 0));
-    assert_eq!(rt; judged(0, 9), (1, 0, 0));
+    assert_eq!(rt; judged(0, 0), Err(Refusal::FrameCount));
+    assert_eq!(rt; judged(1, 0), Ok((1, 0)));
+    assert_eq!(rt; judged(64, 8), Ok((64, 8)));
+    assert_eq!(rt; judged(65, 8), Err(Refusal::FrameCount));
+    assert_eq!(rt; judged(64, 9), Err(Refusal::PinPlaceCount));
+    assert_eq!(rt; judged(65, 9), Err(Refusal::FrameCount));
+    assert_eq!(rt; judged(0, 9), Err(Refusal::FrameCount));
 }
 
 const REFUSALS: [Refusal; 20] = [
@@ -48,4 +47,11 @@ fn refusals_have_numbers_in_order(rt: HostRuntime) {
     for (i, refusal) in REFUSALS.iter().enumerate() {
         assert_eq!(rt; refusal.number() as usize, i + 1);
     }
+}
+
+#[test]
+fn refusals_are_printed_as_their_numbers(rt: HostRuntime) -> Result<(), AllocError> {
+    let shown = format!(in rt.alloc(); "{} {}", Refusal::FrameCount, Refusal::IndexFull)?;
+    assert_eq!(rt; shown.as_str(), "1 20");
+    Ok(())
 }

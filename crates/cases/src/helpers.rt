@@ -9,8 +9,8 @@ use std::alloc::{AllocError, Global};
 use std::fmt::Debug;
 use std::test::Fail;
 
-// An error where a condition does not hold. What a test calls uses this and the next, and only the test itself ends the run: a function that may
-// end the run owes none of what its contract promises.
+// An error where a condition does not hold. What a test calls uses this and the next, and only the test itself ends the run:
+// a function that may end the run owes none of what its contract promises.
 pub fn check(holds: bool) -> Result<(), Fail>
     ensures { IsOk result ↔ IsTrue holds }
 {
@@ -32,27 +32,16 @@ pub fn check_eq<T: PartialEq + Debug + Drop>(found: T, expected: T) -> Result<()
     }
 }
 
-// The number of a refusal, or 0 where nothing is refused.
-pub fn number_of(answer: Result<(), Refusal>) -> u8 {
-    match answer {
-        Ok(()) => 0,
-        Err(refusal) => refusal.number(),
-    }
-}
-
-pub fn geometry_of(frames: usize) -> Result<Geometry, Fail> {
-    match Geometry::new(frames, 0) {
-        Ok(geometry) => Ok(geometry),
-        Err(refusal) => Err(Fail::new(refusal.number())),
-    }
-}
-
 pub fn sectors_of(heap: Global, numbers: &[u32]) -> Result<Vec<Sector>, AllocError> {
-    let mut sectors = Vec::new(heap);
-    for number in numbers {
-        sectors.push(Sector { number: *number })?;
-    }
-    Ok(sectors)
+    numbers
+        .iter()
+        .map(|number| Sector { number: *number })
+        .collect(heap)
+}
+
+// So many sectors, all different.
+pub fn different_sectors(heap: Global, count: u32) -> Result<Vec<Sector>, AllocError> {
+    (0..count).map(|number| Sector { number }).collect(heap)
 }
 
 // What a replay on so many frames fetches.
@@ -61,24 +50,30 @@ fn fetches_of<P: Policy + Drop, K: Key>(
     frames: usize,
     keys: &[K],
     slots: &mut [Slot<K>],
-) -> Result<u64, Fail>
+) -> Result<u64, Refusal>
 where
     P::Setting: Drop,
 {
-    let geometry = geometry_of(frames)?;
-    let mut held = [0; 64];
-    match replay_keys::<P, K>(setting, &geometry, keys, slots, &mut held) {
-        Ok(fetches) => Ok(fetches),
-        Err(refusal) => Err(Fail::new(refusal.number())),
-    }
+    let geometry = Geometry::new(frames, 0)?;
+    replay_keys::<P, K>(setting, &geometry, keys, slots, &mut [0; 64])
 }
+
+// Numbers of frames, and of the touches of `anomaly_touches` what LRU, FIFO and CLOCK fetch on them and the fewest fetches.
+pub const FETCHES: [(usize, [u64; 3], u64); 6] = [
+    (1, [12, 12, 12], 12),
+    (2, [12, 12, 12], 9),
+    (3, [10, 9, 9], 7),
+    (4, [8, 10, 10], 6),
+    (8, [5, 5, 5], 5),
+    (64, [5, 5, 5], 5),
+];
 
 // What LRU, FIFO and CLOCK fetch on so many frames.
 pub fn counts_of<K: Key>(
     frames: usize,
     keys: &[K],
     slots: &mut [Slot<K>],
-) -> Result<[u64; 3], Fail> {
+) -> Result<[u64; 3], Refusal> {
     let lru = fetches_of::<Lru, K>((), frames, keys, slots)?;
     let fifo = fetches_of::<Fifo, K>((), frames, keys, slots)?;
     let clock = fetches_of::<Clock, K>((), frames, keys, slots)?;

@@ -1,8 +1,8 @@
 // The index compared with a plain list, over many calls in a haphazard order.
 ghost use Rattle.index.specs.Slots.{Sound};
 
-use crate::helpers::{check, check_eq, number_of};
-use base::{Key, Sector, VolumeKey};
+use crate::helpers::{check, check_eq};
+use base::{Key, Refusal, Sector, VolumeKey};
 use index::{Index, Slot};
 use std::test::Fail;
 
@@ -26,15 +26,12 @@ impl Random {
     }
 }
 
+// A key, and its number if it has one.
+type Pair<K> = (K, Option<u32>);
+
 // How many keys the list has a number for.
-fn count(model: &[Option<u32>]) -> usize {
-    let mut found: usize = 0;
-    for number in model {
-        if number.is_some() {
-            found = found.saturating_add(1);
-        }
-    }
-    found
+fn count<K>(model: &[Pair<K>]) -> usize {
+    model.iter().filter(|(_, number)| number.is_some()).count()
 }
 
 // Puts a key into both or takes it out of both; answers whether the index refuses it.
@@ -48,61 +45,50 @@ fn change<K: Key>(
     requires { Sound K.Key.code K.Key.spread index.old }
     ensures { Sound K.Key.code K.Key.spread index.new }
 {
-    let before = *held;
     let Some(number) = stored else {
-        *held = None;
-        check_eq(index.remove(&key), before)?;
+        check_eq(index.remove(&key), held.take())?;
         return Ok(false);
     };
-    if has_room || before.is_some() {
+    let expected = if has_room || held.is_some() {
         *held = stored;
-        check_eq(number_of(index.put(key, number)), 0)?;
-        return Ok(false);
-    }
-    check_eq(number_of(index.put(key, number)), 20)?;
-    Ok(true)
+        Ok(())
+    } else {
+        Err(Refusal::IndexFull)
+    };
+    check_eq(index.put(key, number), expected)?;
+    Ok(expected.is_err())
 }
 
 // One call on both; answers whether the index refuses it.
 fn compare<K: Key>(
     index: &mut Index<'_, K>,
-    model: &mut [Option<u32>],
-    keys: &[K],
+    model: &mut [Pair<K>],
     random: u64,
     number: u32,
 ) -> Result<bool, Fail>
     requires { Sound K.Key.code K.Key.spread index.old }
     ensures { Sound K.Key.code K.Key.spread index.new }
 {
-    let place = (random >> 33) as usize % KEYS;
-    check(place < model.len() && place < keys.len())?;
-    let key = keys[place];
     let has_room = count(model) < SLOTS;
-    let stored = if (random >> 60) % 4 == 0 {
-        None
-    } else {
-        Some(number)
-    };
-    let mut held = model[place];
+    let place = (random >> 33) as usize % KEYS;
+    check(place < model.len())?;
+    let (key, mut held) = model[place];
     check_eq(index.find(&key), held)?;
+    let stored = ((random >> 60) % 4 != 0).then_some(number);
     let refused = change(index, &mut held, key, stored, has_room)?;
     check_eq(index.find(&key), held)?;
-    model[place] = held;
+    model[place] = (key, held);
     check_eq(index.len(), count(model))?;
     Ok(refused)
 }
 
 // Two thousand calls; answers how many of them the index refuses.
-fn count_refused<K: Key>(
-    slots: &mut [Slot<K>],
-    model: &mut [Option<u32>],
-    keys: &[K],
-) -> Result<u32, Fail> {
+fn count_refused<K: Key>(slots: &mut [Slot<K>], model: &mut [Pair<K>]) -> Result<u32, Fail> {
     let mut index = Index::new(slots);
     let mut random = Random { state: 1 };
     let mut refused: u32 = 0;
     for number in 0..2000 {
-        if compare(&mut index, model, keys, random.next(), number)? {
+        if compare(&mut index, model, random.next(), number)? {
             refused = refused.saturating_add(1);
         }
     }
@@ -111,28 +97,20 @@ fn count_refused<K: Key>(
 
 #[test]
 fn sectors_agree_with_a_list(rt: HostRuntime) -> Result<(), Fail> {
-    let mut keys = Vec::new(rt.alloc());
-    for number in 0..KEYS {
-        keys.push(Sector {
-            number: number as u32,
-        })?;
-    }
-    assert_eq!(rt;
-        count_refused(&mut [Slot::Free; SLOTS], &mut [None; KEYS], &keys)?,
-        168
-    );
+    let mut model = (0..KEYS as u32)
+        .map(|number| (Sector { number }, None))
+        .collect::<Vec<Pair<Sector>>>(rt.alloc())?;
+    let refused = count_refused(&mut [None; SLOTS], &mut model)?;
+    assert_eq!(rt; refused, 168);
     Ok(())
 }
 
 #[test]
 fn volume_keys_agree_with_a_list(rt: HostRuntime) -> Result<(), Fail> {
-    let mut keys = Vec::new(rt.alloc());
-    for number in 0..KEYS {
-        keys.push(VolumeKey::new((number % 3) as u8, (number / 3) as u32))?;
-    }
-    assert_eq!(rt;
-        count_refused(&mut [Slot::Free; SLOTS], &mut [None; KEYS], &keys)?,
-        168
-    );
+    let mut model = (0..KEYS as u32)
+        .map(|number| (VolumeKey::new((number % 3) as u8, number / 3), None))
+        .collect::<Vec<Pair<VolumeKey>>>(rt.alloc())?;
+    let refused = count_refused(&mut [None; SLOTS], &mut model)?;
+    assert_eq!(rt; refused, 168);
     Ok(())
 }

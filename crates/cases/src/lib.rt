@@ -7,6 +7,18 @@ ghost use Rattle.cases.specs.Worked.{anomaly, examples, Agree};
 #[cfg(test)]
 mod base_cases;
 #[cfg(test)]
+mod cache_helpers;
+#[cfg(test)]
+mod cache_layers;
+#[cfg(test)]
+mod cache_pins;
+#[cfg(test)]
+mod cache_policies;
+#[cfg(test)]
+mod cache_sessions;
+#[cfg(test)]
+mod cache_sizes;
+#[cfg(test)]
 mod disk_helpers;
 #[cfg(test)]
 mod helpers;
@@ -25,11 +37,17 @@ mod planning_limits;
 #[cfg(test)]
 mod policy_cases;
 #[cfg(test)]
+mod sheet_cases;
+#[cfg(test)]
 mod trace_cases;
+#[cfg(test)]
+mod trace_helpers;
 #[cfg(test)]
 mod trace_limits;
 #[cfg(test)]
 mod turn_cases;
+#[cfg(test)]
+mod turn_helpers;
 
 // The list of touches of most examples. On it FIFO fetches more often with four frames than with three.
 pub fn anomaly_touches() -> [u32; 12]

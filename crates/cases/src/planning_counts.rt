@@ -1,9 +1,9 @@
 // The fewest fetches, the ceiling and forecasts, and what a trace costs.
 use crate::anomaly_touches;
 use crate::helpers::*;
-use base::{Key, Sector, VolumeKey};
+use base::{Key, Refusal, Sector, VolumeKey};
 use index::Slot;
-use planning::{ceiling, forecast_touches, plan_touches};
+use planning::{Lists, Plan, ceiling, forecast_touches, plan_touches};
 use policy::{Clock, Fifo, Lru, Policy};
 use std::test::Fail;
 use trace::read_trace;
@@ -23,13 +23,14 @@ fn fewest_of<K: Key>(
     frames: usize,
     slots: &mut [Slot<K>],
     serving: &mut [u8],
-) -> Result<u64, Fail> {
-    let mut next = [0; 12];
-    let mut held = [0; 64];
-    match plan_touches(keys, 64, frames, slots, &mut next, &mut held, serving) {
-        Ok(plan) => Ok(plan.fetches),
-        Err(refusal) => Err(Fail::new(refusal.number())),
-    }
+) -> Result<u64, Refusal> {
+    let mut lists = Lists {
+        slots,
+        next: &mut [0; 12],
+        held: &mut [0; 64],
+        serving,
+    };
+    Ok(plan_touches(keys, 64, frames, &mut lists)?.fetches)
 }
 
 // A number of frames, the fewest fetches on them, and the frames that serve twelve touches; two places more stay as they are.
@@ -78,63 +79,57 @@ fn schedules_have_the_fewest_fetches(rt: HostRuntime) -> Result<(), Fail> {
     let keys = sectors_of(rt.alloc(), &anomaly_touches())?;
     for schedule in &SCHEDULES {
         let mut serving = [77; 14];
-        let mut slots = [Slot::Free; 12];
-        let fetches = fewest_of(&keys, schedule.frames, &mut slots, &mut serving)?;
+        let fetches = fewest_of(&keys, schedule.frames, &mut [None; 12], &mut serving)?;
         assert_eq!(rt; (fetches, serving), (schedule.fetches, schedule.serving));
     }
     Ok(())
 }
 
-// A policy's fetches on four frames, the fewest on two, and the ceiling; or the number of a refusal.
+// A policy's fetches on four frames, and the plan by a schedule on a smaller number of frames.
 fn forecast_of<P: Policy + Drop>(
     setting: P::Setting,
     keys: &[Sector],
     smaller: usize,
     held: &mut [u32],
-) -> Result<(u64, u64, u64), u8>
+) -> Result<(u64, Plan), Refusal>
 where
     P::Setting: Drop,
 {
-    let mut slots = [Slot::Free; 12];
-    let mut next = [0; 12];
-    let mut serving = [0; 12];
-    match forecast_touches::<P, Sector>(
-        setting,
-        keys,
-        4,
-        smaller,
-        &mut slots,
-        &mut next,
+    let mut lists = Lists {
+        slots: &mut [None; 12],
+        next: &mut [0; 12],
         held,
-        &mut serving,
-    ) {
-        Ok(forecast) => Ok((
-            forecast.fetches,
-            forecast.plan.fetches,
-            forecast.plan.ceiling,
-        )),
-        Err(refusal) => Err(refusal.number()),
-    }
+        serving: &mut [0; 12],
+    };
+    let forecast = forecast_touches::<P, Sector>(setting, keys, 4, smaller, &mut lists)?;
+    Ok((forecast.fetches, forecast.plan))
 }
 
 #[test]
 fn forecasts_have_all_three_counts(rt: HostRuntime) -> Result<(), Fail> {
     let keys = sectors_of(rt.alloc(), &anomaly_touches())?;
+    let plan = Plan {
+        fetches: 9,
+        ceiling: 16,
+    };
     assert_eq!(rt;
         forecast_of::<Lru>((), &keys, 2, &mut [0; 4]),
-        Ok((8, 9, 16))
+        Ok((8, plan))
     );
     assert_eq!(rt;
         forecast_of::<Fifo>((), &keys, 2, &mut [0; 4]),
-        Ok((10, 9, 16))
+        Ok((10, plan))
     );
     assert_eq!(rt;
         forecast_of::<Clock>((), &keys, 2, &mut [0; 4]),
-        Ok((10, 9, 16))
+        Ok((10, plan))
     );
-    assert_eq!(rt; forecast_of::<Lru>((), &keys, 2, &mut [0; 3]), Err(18));
-    assert_eq!(rt; forecast_of::<Lru>((), &keys, 0, &mut [0; 5]), Err(19));
-    assert_eq!(rt; forecast_of::<Lru>((), &keys, 5, &mut [0; 5]), Err(19));
+    let few_places = forecast_of::<Lru>((), &keys, 2, &mut [0; 3]);
+    assert_eq!(rt; few_places, Err(Refusal::TooFewPlaces));
+    let no_frames = forecast_of::<Lru>((), &keys, 0, &mut [0; 5]);
+    assert_eq!(rt; no_frames, Err(Refusal::SmallerFrameCount));
+    let more_frames = forecast_of::<Lru>((), &keys, 5, &mut [0; 5]);
+    assert_eq!(rt; more_frames, Err(Refusal::SmallerFrameCount));
     Ok(())
 }
 
@@ -142,22 +137,12 @@ fn forecasts_have_all_three_counts(rt: HostRuntime) -> Result<(), Fail> {
 const TEXT: &str =
     "0,1,512,R,0\n0,2,512,R,0\n0,3,512,R,0\n0,4,512,R,0\n0,1,512,R,0\n0,2,512,R,0\n0,5,512,R,0\n0,1,512,R,0\n0,2,512,R,0\n0,3,512,R,0\n0,4,512,R,0\n0,5,512,R,0\n";
 
-// The frames, what LRU, FIFO and CLOCK fetch, and the fewest fetches.
-const ROWS: [(usize, [u64; 3], u64); 6] = [
-    (1, [12, 12, 12], 12),
-    (2, [12, 12, 12], 9),
-    (3, [10, 9, 9], 7),
-    (4, [8, 10, 10], 6),
-    (8, [5, 5, 5], 5),
-    (64, [5, 5, 5], 5),
-];
-
 fn check_rows(
     keys: &[VolumeKey],
     slots: &mut [Slot<VolumeKey>],
     serving: &mut [u8],
 ) -> Result<(), Fail> {
-    for (frames, counts, fewest) in &ROWS {
+    for (frames, counts, fewest) in &FETCHES {
         check_eq(counts_of(*frames, keys, slots)?, *counts)?;
         check_eq(fewest_of(keys, *frames, slots, serving)?, *fewest)?;
     }
@@ -167,6 +152,6 @@ fn check_rows(
 #[test]
 fn traces_have_their_counts(rt: HostRuntime) -> Result<(), Fail> {
     let mut keys = [VolumeKey::new(9, 9); 12];
-    assert!(rt; read_trace(TEXT.as_bytes(), &mut keys).is_ok());
-    check_rows(&keys, &mut [Slot::Free; 12], &mut [0; 12])
+    assert_eq!(rt; read_trace(TEXT.as_bytes(), &mut keys), Ok(12));
+    check_rows(&keys, &mut [None; 12], &mut [0; 12])
 }

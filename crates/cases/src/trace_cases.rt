@@ -1,22 +1,16 @@
 // Texts that the trace reader accepts or refuses, each with its answer.
 use crate::helpers::check_eq;
+use crate::trace_helpers::{judge, report_of};
 use base::VolumeKey;
 use std::test::Fail;
-use trace::read_trace;
+use trace::Report;
 
-// The number, line and field of a refusal.
-type Report = (u8, u32, u8);
+// The number, line and field that are reported.
+type Numbers = (u8, u32, u8);
 
-// What reading answers: a report, all zeros where nothing is refused, and how many touches there are.
-fn judge(text: &str) -> (Report, usize) {
-    let mut keys = [VolumeKey::new(0, 0); 128];
-    match read_trace(text.as_bytes(), &mut keys) {
-        Ok(touches) => ((0, 0, 0), touches),
-        Err(fault) => {
-            let report = fault.report();
-            ((report.number, report.line, report.field), 0)
-        }
-    }
+// A text of at most 128 touches.
+fn judge_text(text: &str) -> Result<usize, Report> {
+    judge(text, &mut [VolumeKey::new(0, 0); 128])
 }
 
 // Texts and their touches.
@@ -33,7 +27,7 @@ const ACCEPTED: [(&str, usize); 9] = [
 ];
 
 // Unit, sector number and size.
-const NUMBERS: [(&str, Report); 17] = [
+const NUMBERS: [(&str, Numbers); 17] = [
     ("256,7,512,R,0", (11, 1, 1)),
     (",7,512,R,0", (11, 1, 1)),
     ("-1,7,512,R,0", (11, 1, 1)),
@@ -54,7 +48,7 @@ const NUMBERS: [(&str, Report); 17] = [
 ];
 
 // Opcode and time stamp.
-const WORDS: [(&str, Report); 9] = [
+const WORDS: [(&str, Numbers); 9] = [
     ("0,7,512,X,0", (13, 1, 4)),
     ("0,7,512,RW,0", (13, 1, 4)),
     ("0,7,512,,0", (13, 1, 4)),
@@ -67,7 +61,7 @@ const WORDS: [(&str, Report); 9] = [
 ];
 
 // Lines with several faults, and lines with other than five fields.
-const ORDER: [(&str, Report); 10] = [
+const ORDER: [(&str, Numbers); 10] = [
     ("x,x,x,x,x", (11, 1, 1)),
     ("0,x,x,x,x", (11, 1, 2)),
     ("0,7,x,x,x", (11, 1, 3)),
@@ -81,7 +75,7 @@ const ORDER: [(&str, Report); 10] = [
 ];
 
 // Empty lines, and carriage returns that end no line.
-const ENDINGS: [(&str, Report); 10] = [
+const ENDINGS: [(&str, Numbers); 10] = [
     ("\n", (10, 1, 0)),
     ("0,7,512,R,0\n\n0,7,512,R,0\n", (10, 2, 0)),
     ("0,7,512,R,0\r\n\r\n", (10, 2, 0)),
@@ -94,9 +88,10 @@ const ENDINGS: [(&str, Report); 10] = [
     ("0,7,512,R,0\r0,7,512,R,0\n", (10, 1, 0)),
 ];
 
-fn check_refused(cases: &[(&str, Report)]) -> Result<(), Fail> {
-    for (text, report) in cases {
-        check_eq((*text, judge(*text)), (*text, (*report, 0)))?;
+fn check_refused(cases: &[(&str, Numbers)]) -> Result<(), Fail> {
+    for (text, numbers) in cases {
+        let expected = (*text, Err(report_of(*numbers)));
+        check_eq((*text, judge_text(*text)), expected)?;
     }
     Ok(())
 }
@@ -104,7 +99,7 @@ fn check_refused(cases: &[(&str, Report)]) -> Result<(), Fail> {
 #[test]
 fn accepts(rt: HostRuntime) {
     for (text, touches) in &ACCEPTED {
-        assert_eq!(rt; judge(*text), ((0, 0, 0), *touches), "{}", *text);
+        assert_eq!(rt; judge_text(*text), Ok(*touches), "{}", *text);
     }
 }
 
@@ -114,4 +109,11 @@ fn refuses() -> Result<(), Fail> {
     check_refused(&WORDS)?;
     check_refused(&ORDER)?;
     check_refused(&ENDINGS)
+}
+
+#[test]
+fn reports_are_printed_as_their_numbers(rt: HostRuntime) -> Result<(), Fail> {
+    let shown = format!(in rt.alloc(); "{}", report_of((12, 3, 3)))?;
+    assert_eq!(rt; shown.as_str(), "12,3,3");
+    Ok(())
 }

@@ -1,28 +1,15 @@
 // Traces at their limits, and what the list of keys is afterwards.
 use crate::helpers::check_eq;
+use crate::trace_helpers::{judge, report_of};
 use base::VolumeKey;
 use std::alloc::{AllocError, Global};
 use std::test::Fail;
-use trace::read_trace;
-
-// The number, line and field of a refusal, or how many touches there are.
-fn judge(text: &[u8], keys: &mut [VolumeKey]) -> Result<usize, (u8, u32, u8)> {
-    match read_trace(text, keys) {
-        Ok(touches) => Ok(touches),
-        Err(fault) => {
-            let report = fault.report();
-            Err((report.number, report.line, report.field))
-        }
-    }
-}
+use trace::Report;
 
 // A line so many times, and one text more.
-fn repeat(heap: Global, line: &str, times: usize, last: &str) -> Result<Vec<u8>, AllocError> {
-    let mut text = Vec::new(heap);
-    for _ in 0..times {
-        text.extend_from_slice(line.as_bytes())?;
-    }
-    text.extend_from_slice(last.as_bytes())?;
+fn repeat(heap: Global, line: &str, times: usize, last: &str) -> Result<String, AllocError> {
+    let mut text = line.repeat(heap, times)?;
+    text.push_str(last)?;
     Ok(text)
 }
 
@@ -33,10 +20,13 @@ fn length_has_a_limit(rt: HostRuntime) -> Result<(), Fail> {
     let mut keys = vec![in rt.alloc(); VolumeKey::new(0, 0); 4096]?;
     let longest = repeat(rt.alloc(), line, 2047, line)?;
     assert_eq!(rt; longest.len(), 32768);
-    assert_eq!(rt; judge(&longest, &mut keys), Ok(2048));
+    assert_eq!(rt; judge(longest.as_str(), &mut keys), Ok(2048));
     let longer = repeat(rt.alloc(), line, 2047, "0,0,512,R,000000\n")?;
     assert_eq!(rt; longer.len(), 32769);
-    assert_eq!(rt; judge(&longer, &mut keys), Err((9, 0, 0)));
+    assert_eq!(rt;
+        judge(longer.as_str(), &mut keys),
+        Err(report_of((9, 0, 0)))
+    );
     Ok(())
 }
 
@@ -46,23 +36,23 @@ fn touches_have_a_limit(rt: HostRuntime) -> Result<(), Fail> {
     let line = "0,0,65536,R,0\n";
     let mut keys = vec![in rt.alloc(); VolumeKey::new(0, 0); 4097]?;
     let most = repeat(rt.alloc(), line, 32, "")?;
-    assert_eq!(rt; judge(&most, &mut keys), Ok(4096));
+    assert_eq!(rt; judge(most.as_str(), &mut keys), Ok(4096));
     let one_more = repeat(rt.alloc(), line, 32, "1,0,512,R,0\n")?;
-    assert_eq!(rt; judge(&one_more, &mut keys), Err((16, 33, 0)));
+    assert_eq!(rt;
+        judge(one_more.as_str(), &mut keys),
+        Err(report_of((16, 33, 0)))
+    );
     // the next line's fault comes later
     let faulty = repeat(rt.alloc(), line, 32, "1,0,512,R,0\nx\n")?;
-    assert_eq!(rt; judge(&faulty, &mut keys), Err((16, 33, 0)));
+    assert_eq!(rt;
+        judge(faulty.as_str(), &mut keys),
+        Err(report_of((16, 33, 0)))
+    );
     let mut short = vec![in rt.alloc(); VolumeKey::new(0, 0); 4095]?;
-    assert_eq!(rt; judge(&most, &mut short), Err((18, 0, 0)));
-    Ok(())
-}
-
-// The units and sector numbers that a list of keys has.
-fn check_after(keys: &[VolumeKey], after: &[(u8, u32)]) -> Result<(), Fail> {
-    check_eq(keys.len(), after.len())?;
-    for (key, expected) in keys.iter().zip(after.iter()) {
-        check_eq((key.asu(), key.lba()), *expected)?;
-    }
+    assert_eq!(rt;
+        judge(most.as_str(), &mut short),
+        Err(report_of((18, 0, 0)))
+    );
     Ok(())
 }
 
@@ -71,25 +61,27 @@ fn check_keys(
     heap: Global,
     places: usize,
     text: &str,
-    answer: Result<usize, (u8, u32, u8)>,
-    after: &[(u8, u32)],
+    answer: Result<usize, Report>,
+    after: &[VolumeKey],
 ) -> Result<(), Fail> {
     let mut keys = vec![in heap; VolumeKey::new(9, 9); places]?;
-    check_eq(judge(text.as_bytes(), &mut keys), answer)?;
-    check_after(&keys, after)?;
-    Ok(())
+    check_eq(judge(text, &mut keys), answer)?;
+    check_eq(&keys[..], after)
 }
 
 #[test]
 fn keys_are_written_once_all_is_judged(rt: HostRuntime) -> Result<(), Fail> {
     let heap = rt.alloc();
     let text = "3,4294967294,1024,R,0\n5,7,512,W,0\n";
-    let written = [(3, 4294967294), (3, 4294967295), (5, 7), (9, 9), (9, 9)];
+    let written = [(3, 4294967294), (3, 4294967295), (5, 7), (9, 9), (9, 9)].map(|(
+        asu,
+        lba,
+    )| VolumeKey::new(asu, lba));
     check_keys(heap, 5, text, Ok(3), &written)?;
     check_keys(heap, 3, text, Ok(3), &written[0..3])?;
-    let unchanged = [(9, 9); 5];
-    check_keys(heap, 2, text, Err((18, 0, 0)), &unchanged[0..2])?;
+    let unchanged = [VolumeKey::new(9, 9); 5];
+    check_keys(heap, 2, text, Err(report_of((18, 0, 0))), &unchanged[0..2])?;
     let faulty = "3,1,512,R,0\n3,x,512,R,0\n";
-    check_keys(heap, 5, faulty, Err((11, 2, 2)), &unchanged)?;
+    check_keys(heap, 5, faulty, Err(report_of((11, 2, 2))), &unchanged)?;
     check_keys(heap, 0, "", Ok(0), &[])
 }

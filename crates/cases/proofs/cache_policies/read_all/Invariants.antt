@@ -1,6 +1,6 @@
 -- The cache stays safe from read to read.
 use Rattle.cache.specs.Reading.{Safe}
-use Rattle.cache_cases.proofs.size_cases.read_round.Given as goal
+use Rattle.cases.proofs.cache_policies.read_all.Given as goal
 
 abbrev pub invariant-loop-sector : goal.invariant-loop-sector
 invariant-loop-sector g l = Safe g.D.Disk g.P.Policy l.cache

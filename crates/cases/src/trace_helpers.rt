@@ -1,0 +1,17 @@
+// What reading a trace answers, where a fault is told by what is reported of it.
+use base::VolumeKey;
+use trace::{Report, read_trace};
+
+pub fn judge(text: &str, keys: &mut [VolumeKey]) -> Result<usize, Report> {
+    read_trace(text.as_bytes(), keys).map_err(|fault| fault.report())
+}
+
+// The number, line and field that are reported.
+pub fn report_of(numbers: (u8, u32, u8)) -> Report {
+    let (number, line, field) = numbers;
+    Report {
+        number,
+        line,
+        field,
+    }
+}
