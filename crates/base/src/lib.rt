@@ -3,11 +3,13 @@
 
 mod geometry;
 mod key;
+mod limits;
 mod mix;
 mod refusal;
 mod ring;
 
 pub use geometry::Geometry;
 pub use key::{Key, Sector, VolumeKey};
+pub use limits::{MAX_FRAMES, MAX_PINS, MAX_TOUCHES, SECTOR_BYTES};
 pub use refusal::Refusal;
 pub use ring::next_in_ring;

@@ -3,6 +3,7 @@ ghost use Rattle.std.specs.Prelude.{◌≡◌};
 ghost use Rattle.base.specs.Geometries.{built, frames_of, pins_of, Bounded};
 
 use super::Geometry;
+use crate::limits::{MAX_FRAMES, MAX_PINS};
 use crate::refusal::Refusal;
 
 impl Geometry {
@@ -10,10 +11,10 @@ impl Geometry {
     pub fn new(frames: usize, pins: usize) -> Result<Geometry, Refusal>
         ensures { built frames pins result }
     {
-        if frames == 0 || frames > 64 {
+        if frames == 0 || frames > MAX_FRAMES {
             return Err(Refusal::FrameCount);
         }
-        if pins > 8 {
+        if pins > MAX_PINS {
             return Err(Refusal::PinPlaceCount);
         }
         Ok(Geometry {

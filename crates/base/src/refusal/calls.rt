@@ -18,6 +18,6 @@ impl fmt::Display for Refusal {
     ghost output = { λ refusal. Some (decimal (number refusal)) };
 
     fn fmt<W: fmt::Write>(&self, f: &mut fmt::Formatter<W>) -> fmt::Result {
-        write!(f, "{}", *self as u8)
+        write!(f, "{}", self.number())
     }
 }
