@@ -11,10 +11,6 @@ use Rattle.index.specs.Slots.{Reached}
 use Rattle.index.proofs.Places.{steps_none, steps_same, steps_below, steps_onward, steps_round, steps_before, onward_below}
 use Rattle.index.proofs.Changes.{within_from_taken}
 
--- a slot is not free and taken
-pub not_free : {X : Type 0} (s : Option X) (x : X) → s ≡ None → s ≡ Some x → ⊥
-not_free s x free held = none-some x (sym free ∙ held)
-
 module _ {K : Type 0} (spread : K → ℕ) (n : ℕ) where
   -- whether p comes before q on the way from the key's home
   abbrev pub Ahead : K → ℕ → ℕ → Type 0
@@ -38,7 +34,7 @@ module _ {K : Type 0} (spread : K → ℕ) (n : ℕ) where
       let kept : (p : ℕ) → (p ≡ place → ⊥) → get_or (set xs place None) p None ≡ get_or xs p None = λ p off. get_or-set_other xs place p None None off in
       let reaches = rw long at reached in
       let apart : (q : ℕ) (x : Entry K) → get_or (set xs place None) q None ≡ Some x → q ≡ place → ⊥ =
-      λ q x e at. not_free (get_or (set xs place None) q None) x (rw at free) e in
+      λ q x e at. none-some x (sym (rw at free) ∙ e) in
       record {
         long = length-set xs place None ∙ long;
         inside = inside;
@@ -89,7 +85,7 @@ module _ {K : Type 0} (spread : K → ℕ) (n : ℕ) where
                   (gap.across q x held next in_next other (steps_before n home hole next q in-home gap.inside in_next in-q b past))
               | inr here ↦
                   let same : steps n hole q ≡ steps n hole next = omega arith in
-                  not_free (get_or xs q None) x (rw (steps_same n hole q next gap.inside in-q in_next same) free) held
+                  none-some x (sym (rw (steps_same n hole q next gap.inside in-q in_next same) free) ∙ held)
             ]
           ])
 
@@ -130,7 +126,7 @@ module _ {K : Type 0} (spread : K → ℕ) (n : ℕ) where
                   let b' : Ahead x.key p hole = rw (home, one) at b in
                   gap.across next x held p l apart (omega arith)
               | inr far ↦ elim (cases_eq q next) [
-                | inl at ↦ absurd (not_free (get_or ys q None) y (rw at (freed None ∙ gap.free)) e)
+                | inl at ↦ absurd (none-some y (sym (rw at (freed None ∙ gap.free)) ∙ e))
                 | inr away ↦ gap.across q y (sym (rest q None far away) ∙ e) p l apart b
               ]
             ])
@@ -140,5 +136,5 @@ module _ {K : Type 0} (spread : K → ℕ) (n : ℕ) where
               let in-q : q < n = rw (sym (same-long ∙ gap.long)) (within_from_taken ys q y e) in
               let same : steps n next q ≡ steps n next next = omega arith in
               let at = steps_same n next q next in_next in-q in_next same in
-              not_free (get_or ys q None) y (rw at (freed None ∙ gap.free)) e;
+              none-some y (sym (rw at (freed None ∙ gap.free)) ∙ e);
         }

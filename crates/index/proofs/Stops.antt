@@ -1,25 +1,12 @@
 -- The first slot of a part that does not pass, as `position` finds it.
-use Rattle.std.proofs.Common.{◌≡◌, ℕ, ◌+◌, ◌-◌, ◌<◌, ◌≤◌, Bool, true, false, not, cond, ltb, List, length, get_or, Option, Some, None, sym, ap, ◌∙◌, inl, inr, arith}
-use Rattle.std.proofs.lemmas.Bool.{cases_Bool, ltb-true, ltb-false}
+use Rattle.std.proofs.Common.{◌≡◌, ℕ, ◌+◌, ◌-◌, ◌≤◌, Bool, not, cond, ltb, List, length, get_or, Option, Some, None, sym, ap, ◌∙◌, inl, inr, arith}
+use Rattle.std.proofs.lemmas.Bool.{cases_Bool, not-true, not-false, ltb-true, ltb-false}
+use Rattle.std.proofs.lemmas.Option.{same_Some, none-some}
 use Rattle.std.proofs.lemmas.List.Edits.{get_or-between, length-between}
 use Rattle.std.proofs.lemmas.List.Sums.{fails_before_first, passes_at_first}
 use Rattle.std.specs.List.{between, position_or_len}
 use Rattle.index.specs.declared.slot.Entry.{Entry}
 use Rattle.index.specs.Probes.{passes, Passed, StopsBetween}
-
-not_true : (b : Bool) → not b ≡ true → b ≡ false
-not_true true e = sym e
-not_true false e = sym (ap not e)
-
-not_false : (b : Bool) → not b ≡ false → b ≡ true
-not_false true e = sym (ap not e)
-not_false false e = sym e
-
-same_some : (a b : ℕ) → Some a ≡ Some b → a ≡ b
-same_some a b e = cc
-
-none_some : (a : ℕ) → ◌≡◌ {A = Option ℕ} None (Some a) → ⊥
-none_some a e = let z : ◌≡◌ {A = ℕ} 0 1 = cc in omega arith
 
 module _ {K : Type 0} (code : K → ℕ) (c : ℕ) (slots : List (Option (Entry K))) (from to : ℕ) (ends : to ≤ length slots) where
   -- a slot at which the search stops
@@ -33,7 +20,7 @@ module _ {K : Type 0} (code : K → ℕ) (c : ℕ) (slots : List (Option (Entry 
   passed_before end l h p a b =
       let k = p - from in
       let same : from + k ≡ p = omega arith in
-      not_false (passes code c (get_or slots p None))
+      not-false (passes code c (get_or slots p None))
       (ap (λ n. stops_at (get_or slots n None)) (sym same) ∙ ap stops_at (sym (get_or-between slots from to k None (omega arith))) ∙ fails_before_first stops_at (between from to slots) k None (omega arith))
 
   pub stops_between : (r : Option ℕ) → r ≡ cond (ltb first (length (between from to slots))) (Some first) None →
@@ -41,19 +28,19 @@ module _ {K : Type 0} (code : K → ℕ) (c : ℕ) (slots : List (Option (Entry 
   stops_between r e = elim (cases_Bool (ltb first (length (between from to slots)))) [
     | inl l ↦ (
       λ p q.
-          let same : first ≡ p = same_some first p (sym (rw l at e) ∙ q) in
+          let same : first ≡ p = same_Some first p (sym (rw l at e) ∙ q) in
           let low = ltb-true first (length (between from to slots)) l in
           let long = length-between slots from to ends in
-          let here = not_true (passes code c (get_or (between from to slots) first None)) (passes_at_first stops_at (between from to slots) None low) in (
+          let here = not-true (passes code c (get_or (between from to slots) first None)) (passes_at_first stops_at (between from to slots) None low) in (
             omega arith,
             omega (arith, same, low, long),
             ap (λ n. passes code c (get_or slots (from + n) None)) (sym same) ∙ ap (passes code c) (sym (get_or-between slots from to first None (omega (arith, low, long)))) ∙ here,
             passed_before (from + p) (omega (arith, same, low, long)) (omega (arith, same)),
           ),
-      λ q. absurd (none_some first (sym q ∙ rw l at e)),
+      λ q. absurd (none-some first (sym q ∙ rw l at e)),
     )
     | inr l ↦ (
-      λ p q. absurd (none_some p (sym (rw l at e) ∙ q)),
+      λ p q. absurd (none-some p (sym (rw l at e) ∙ q)),
       λ q. passed_before to (omega arith) (omega (arith, length-between slots from to ends, ltb-false first (length (between from to slots)) l)),
     )
   ]

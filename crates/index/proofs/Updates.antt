@@ -7,6 +7,7 @@ use Rattle.std.proofs.lemmas.List.{get_or-set_same, get_or-set_other, get_or-rep
 use Rattle.std.proofs.lemmas.List.Folds.{sum_by-replicate}
 use Rattle.std.proofs.lemmas.List.Sums.{count_by-le-length}
 use Rattle.std.proofs.lemmas.Bool.{cases_eq}
+use Rattle.std.proofs.lemmas.Option.{none-some}
 use Rattle.index.specs.declared.slot.Entry.{Entry}
 use Rattle.index.specs.declared.index.probing.Probe.{Probe}
 use Rattle.index.specs.declared.index.probing.Probe.TheVariants.{Found, Vacant, Full}
@@ -15,7 +16,6 @@ use Rattle.index.specs.declared.index.Index.{Index}
 use Rattle.index.specs.Slots.{holds, number_of, slots_of, slots_map, Before, Reached, Sound}
 use Rattle.index.specs.Probes.{Absent, Open, Probed, Vacated}
 use Rattle.index.proofs.Counts.{number_only}
-use Rattle.index.proofs.Gaps.{not_free}
 use Rattle.index.proofs.Changes.{within_from_taken, freed_size, freed_different, freed_present, freed_at, renumbered, renumbered_size, renumbered_at, filled_size, filled_different, filled_at}
 use Rattle.index.proofs.Maps.{after_put_known, after_put_new, after_remove_known}
 
@@ -35,7 +35,7 @@ module _ {K : Type 0} (code : K → ℕ) (n : ℕ) where
     reached = rw free (λ q x e.
         let none : Option (Entry K) = None in
         let inside : q < n = rw (length-replicate n none) at (within_from_taken (replicate n none) q x e) in
-        absurd (not_free (get_or (replicate n none) q none) x (get_or-replicate n q none none inside) e));
+        absurd (none-some x (sym (get_or-replicate n q none none inside) ∙ e)));
   }
 
   pub free_map : (xs : List (Option (Entry K))) → xs ≡ replicate n None → slots_map code xs ≡ empty n

@@ -36,11 +36,7 @@ put_answer m code = cond (accepts m code) (Ok tt) (Err IndexFull)
 
 -- the map with a number stored with a code
 abbrev pub stored : Map → ℕ → ℕ → Map
-stored m code number = record {
-  at = update nat_eq m.at code (Some number);
-  size = cond (has m code) m.size (m.size + 1);
-  places = m.places;
-}
+stored m code number = record m { at = update nat_eq m.at code (Some number); size = cond (has m code) m.size (m.size + 1) }
 
 -- the map after a put, which is as before where the put is refused
 abbrev pub after_put : Map → ℕ → ℕ → Map
@@ -48,8 +44,4 @@ after_put m code number = cond (accepts m code) (stored m code number) m
 
 -- the map after a remove
 abbrev pub after_remove : Map → ℕ → Map
-after_remove m code = record {
-  at = update nat_eq m.at code None;
-  size = cond (has m code) (m.size - 1) m.size;
-  places = m.places;
-}
+after_remove m code = record m { at = update nat_eq m.at code None; size = cond (has m code) (m.size - 1) m.size }
