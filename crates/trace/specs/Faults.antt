@@ -1,5 +1,5 @@
 -- What each fault of a trace is reported by: the number of the refusal, the line and the field. Assumes nothing.
-use Rattle.std.specs.Prelude.{ℕ, List, ◌∷◌, ◌++◌, decimal}
+use Rattle.std.specs.Prelude.{ℕ, List, ◌∷◌, ◌++◌, codes, decimal}
 use Rattle.base.specs.Refusals.{number}
 use Rattle.base.specs.declared.refusal.Refusal.TheVariants as refusal
 use Rattle.trace.specs.declared.fault.Field.{Field}
@@ -38,3 +38,7 @@ reported (replay_fault.Refused r) = record { number = number r; line = 0; field 
 -- a report is printed as its number, line and field, with commas between them
 abbrev pub shown_report : Report → List ℕ
 shown_report r = decimal r.number ++ (comma ∷ (decimal r.line ++ (comma ∷ decimal r.field)))
+
+-- and a fault as the word refused, with its report behind a comma
+abbrev pub shown_fault : ReplayFault → List ℕ
+shown_fault fault = codes "refused," ++ shown_report (reported fault)

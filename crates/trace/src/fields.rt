@@ -6,13 +6,14 @@ ghost use Rattle.trace.specs.Accesses.{number_in, sectors_in, opcode_in, stamp_i
 use crate::access::{Access, Opcode};
 use crate::fault::{Field, FieldFault};
 use crate::splits::split_once;
-use base::Refusal;
+use base::{Refusal, SECTOR_BYTES};
 
 const NUMBER_DIGITS: usize = 10;
 
 const FRACTION_DIGITS: usize = 9;
 
-const SECTOR_BYTES: u64 = 512;
+// The sizes of an access.
+const SECTOR: u64 = SECTOR_BYTES as u64;
 
 const MAX_BYTES: u64 = 65_536;
 
@@ -66,8 +67,8 @@ impl Fields<'_> {
         let Some(size) = read_digits(self.size, NUMBER_DIGITS) else {
             return Err(self.fault(Field::Size, Refusal::NotANumber));
         };
-        if (SECTOR_BYTES..=MAX_BYTES).contains(&size) && size % SECTOR_BYTES == 0 {
-            Ok((size / SECTOR_BYTES) as u32)
+        if (SECTOR..=MAX_BYTES).contains(&size) && size % SECTOR == 0 {
+            Ok((size / SECTOR) as u32)
         } else {
             Err(self.fault(Field::Size, Refusal::BadSize))
         }
@@ -76,14 +77,10 @@ impl Fields<'_> {
     fn opcode(&self) -> Result<Opcode, FieldFault>
         ensures { result ≡ opcode_in self.now.line self.now.opcode.now }
     {
-        let fault = self.fault(Field::Opcode, Refusal::BadOpcode);
-        let [b] = self.opcode else {
-            return Err(fault);
-        };
-        match char::from(*b) {
-            'R' | 'r' => Ok(Opcode::Read),
-            'W' | 'w' => Ok(Opcode::Write),
-            _ => Err(fault),
+        match self.opcode {
+            [b'R' | b'r'] => Ok(Opcode::Read),
+            [b'W' | b'w'] => Ok(Opcode::Write),
+            _ => Err(self.fault(Field::Opcode, Refusal::BadOpcode)),
         }
     }
 
@@ -130,10 +127,8 @@ fn read_digits(text: &[u8], most: usize) -> Option<u64>
     }
     let mut value: u64 = 0;
     for b in text {
-        if !b.is_ascii_digit() {
-            return None;
-        }
-        value = value * 10 + (*b - b'0') as u64;
+        let digit = char::from(*b).to_digit(10)?;
+        value = value * 10 + u64::from(digit);
     }
     Some(value)
 }

@@ -8,11 +8,10 @@ ghost use Rattle.trace.specs.Traces.{Reads};
 use crate::access::Access;
 use crate::fault::{LineFault, ReplayFault};
 use crate::reader::TraceReader;
-use base::{Refusal, VolumeKey};
+use base::{MAX_TOUCHES, Refusal, VolumeKey};
 
-const MAX_TEXT_BYTES: usize = 32_768;
-
-const MAX_TOUCHES: usize = 4_096;
+// The longest trace.
+pub const MAX_TEXT_BYTES: usize = 32_768;
 
 // Reads a trace into keys, one for each touch, and answers how many.
 #[tactic(auto, using(crate::proofs::Exact::reads_all, crate::proofs::Exact::reads_refused))]

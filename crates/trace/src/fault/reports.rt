@@ -1,6 +1,6 @@
 // The number, line and field under which a fault is reported.
 ghost use Rattle.std.specs.Prelude.{◌≡◌, Some};
-ghost use Rattle.trace.specs.Faults.{field_number, field_report, line_report, reported, shown_report};
+ghost use Rattle.trace.specs.Faults.{field_number, field_report, line_report, reported, shown_fault, shown_report};
 
 use super::{Field, FieldFault, LineFault, ReplayFault, Report};
 use base::Refusal;
@@ -67,5 +67,14 @@ impl fmt::Display for Report {
 
     fn fmt<W: fmt::Write>(&self, f: &mut fmt::Formatter<W>) -> fmt::Result {
         write!(f, "{},{},{}", self.number, self.line, self.field)
+    }
+}
+
+// A fault is printed as a refusal with its report.
+impl fmt::Display for ReplayFault {
+    ghost output = { λ fault. Some (shown_fault fault) };
+
+    fn fmt<W: fmt::Write>(&self, f: &mut fmt::Formatter<W>) -> fmt::Result {
+        write!(f, "refused,{}", self.report())
     }
 }

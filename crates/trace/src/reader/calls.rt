@@ -63,8 +63,5 @@ fn first_line(text: &[u8]) -> (&[u8], usize)
 fn without_return(line: &[u8]) -> &[u8]
     ensures { Stripped line.now result.now }
 {
-    match line {
-        [front @ .., b'\r'] => front,
-        _ => line,
-    }
+    line.strip_suffix(b"\r").unwrap_or(line)
 }
