@@ -14,7 +14,7 @@ pub record ClockState : Type 0 where
 
 -- the mark under the hand is cleared, and the hand moves one frame on
 abbrev pub cleared : ClockState → ClockState
-cleared s = record { size = s.size; filled = s.filled; hand = onward s.size s.hand; marks = slice_set s.marks s.hand false }
+cleared s = record s { hand = onward s.size s.hand; marks = slice_set s.marks s.hand false }
 
 -- this is done while the mark under the hand is set, at most so many times
 abbrev pub sweep : ℕ → ClockState → ClockState
@@ -31,8 +31,7 @@ clock_place s = cond (nat_lt s.filled s.size) s.filled (swept s).hand
 
 -- a place sets the mark of its frame and leaves the hand one past it
 abbrev pub taken : ClockState → ℕ → ClockState
-taken s f = record {
-  size = s.size;
+taken s f = record s {
   filled = cond (nat_lt s.filled s.size) (s.filled + 1) s.filled;
   hand = onward s.size f;
   marks = slice_set s.marks f true;
@@ -46,7 +45,7 @@ clock_rules = record {
   filled = λ s. s.filled;
   place = clock_place;
   placed = λ s. taken (swept s) (clock_place s);
-  used = λ s f. record { size = s.size; filled = s.filled; hand = s.hand; marks = slice_set s.marks f true };
+  used = λ s f. record s { marks = slice_set s.marks f true };
 }
 
 -- the state that the code keeps, with a mark for each frame

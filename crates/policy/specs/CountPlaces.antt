@@ -24,9 +24,7 @@ set_full counts i top f low h =
 
 -- with room: the next frame is filled
 abbrev filled_one : CountState → CountState
-filled_one s = record {
-  size = s.size;
-  top = s.top;
+filled_one s = record s {
   filled = s.filled + 1;
   hand = onward s.size s.filled;
   counts = slice_set s.counts s.filled s.top;

@@ -13,11 +13,8 @@ pub record CountState : Type 0 where
 
 -- the count under the hand is lowered by one, and the hand moves one frame on
 abbrev pub lowered : CountState → CountState
-lowered s = record {
-  size = s.size;
-  filled = s.filled;
+lowered s = record s {
   hand = onward s.size s.hand;
-  top = s.top;
   counts = slice_set s.counts s.hand (slice_index s.counts s.hand - 1);
 }
 
@@ -36,11 +33,9 @@ count_place s = cond (nat_lt s.filled s.size) s.filled (count_swept s).hand
 
 -- a place sets the count of its frame to the top and leaves the hand one past it
 abbrev pub count_taken : CountState → ℕ → CountState
-count_taken s f = record {
-  size = s.size;
+count_taken s f = record s {
   filled = cond (nat_lt s.filled s.size) (s.filled + 1) s.filled;
   hand = onward s.size f;
-  top = s.top;
   counts = slice_set s.counts f s.top;
 }
 
@@ -52,5 +47,5 @@ count_rules = record {
   filled = λ s. s.filled;
   place = count_place;
   placed = λ s. count_taken (count_swept s) (count_place s);
-  used = λ s f. record { size = s.size; filled = s.filled; hand = s.hand; top = s.top; counts = slice_set s.counts f s.top };
+  used = λ s f. record s { counts = slice_set s.counts f s.top };
 }

@@ -1,7 +1,8 @@
 -- CLOCK is the clock with counts whose top is 1: a set mark is a count of 1. Assumes nothing.
 use Rattle.std.specs.Prelude.{◌≡◌, ℕ, zero, suc, ◌*◌, Bool, true, false, cond, refl}
-use Rattle.std.specs.Prelude.{List, [], ◌∷◌, map, get_or, replicate, nat_lt, slice_index, slice_index_or}
+use Rattle.std.specs.Prelude.{◌∷◌, map, get_or, replicate, nat_lt, slice_index_or}
 use Rattle.std.proofs.Common.{ap, ◌∙◌, inl, inr, arith}
+use Rattle.std.proofs.Math.ListN.{get_or-map}
 use Rattle.std.proofs.lemmas.List.{map-set}
 use Rattle.std.proofs.lemmas.Bool.{cases_Bool}
 use Rattle.policy.specs.Order.{OrderedBy}
@@ -19,11 +20,6 @@ count m = cond m 1 0
 abbrev pub counted_state : ClockState → CountState
 counted_state s = record { size = s.size; filled = s.filled; hand = s.hand; top = 1; counts = map count s.marks }
 
-index_count : (ms : List Bool) (i : ℕ) → slice_index (map count ms) i ≡ count (slice_index_or ms i false)
-index_count [] i = refl
-index_count (m ∷ ms) zero = refl
-index_count (m ∷ ms) (suc i) = index_count ms i
-
 count_none : (k : ℕ) → map count (replicate k false) ≡ replicate k 0
 count_none zero = refl
 count_none (suc k) = ap (λ xs. 0 ∷ xs) (count_none k)
@@ -34,10 +30,10 @@ sweep_counts zero s = refl
 sweep_counts (suc n) s =
     elim (cases_Bool (slice_index_or s.marks s.hand false)) [
       | inl e ↦
-          let one : get_or (map count s.marks) s.hand 0 ≡ 1 = index_count s.marks s.hand ∙ ap count e in
+          let one : get_or (map count s.marks) s.hand 0 ≡ 1 = get_or-map count s.marks s.hand false ∙ ap count e in
           rw (e, one, ← map-set count s.marks s.hand false) (sweep_counts n (cleared s))
       | inr e ↦
-          let none : get_or (map count s.marks) s.hand 0 ≡ 0 = index_count s.marks s.hand ∙ ap count e in
+          let none : get_or (map count s.marks) s.hand 0 ≡ 0 = get_or-map count s.marks s.hand false ∙ ap count e in
           rw (e, none)
     ]
 

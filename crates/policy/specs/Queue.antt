@@ -14,7 +14,7 @@ queue_place q = cond (nat_lt (length q.order) q.size) (length q.order) (slice_in
 
 -- a queue with f moved to its end, or put there
 abbrev pub to_back : Queue → ℕ → Queue
-to_back q f = record { size = q.size; order = without f q.order ++ (f ∷ []) }
+to_back q f = record q { order = without f q.order ++ (f ∷ []) }
 
 -- a queue's rules, but for what a use does
 abbrev pub queue_rules : (Queue → ℕ → Queue) → Rules (Unit {0}) Queue

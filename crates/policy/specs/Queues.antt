@@ -63,7 +63,7 @@ back_valid q v f l =
 
 -- a place while there is room
 abbrev grown : Queue → Queue
-grown q = record { size = q.size; order = q.order ++ (length q.order ∷ []) }
+grown q = record q { order = q.order ++ (length q.order ∷ []) }
 
 grown_valid : (q : Queue) → Valid q → length q.order < q.size → Valid (grown q)
 grown_valid q v l = record { some = v.some; fits = simp length_push (omega arith); frames = covers_next q.order v.frames }

@@ -16,7 +16,7 @@ use Rattle.policy.specs.Rings.{counted, frames_full, order_of, order_set}
 
 -- the hand gives its frame the count n, and moves on
 abbrev pub moved : CountState → ℕ → CountState
-moved s n = record { size = s.size; filled = s.filled; top = s.top; hand = onward s.size s.hand; counts = slice_set s.counts s.hand n }
+moved s n = record s { hand = onward s.size s.hand; counts = slice_set s.counts s.hand n }
 
 pub onward_within : (size h : ℕ) → 1 ≤ size → onward size h < size
 onward_within size h some = grind arith

@@ -4,6 +4,7 @@ ghost use Rattle.std.specs.Prelude.{◌<◌, ◌≤◌};
 ghost use Rattle.arrayvec.specs.ArrayVec.{array_vec_len};
 
 use arrayvec::ArrayVec;
+use base::MAX_FRAMES;
 
 mod calls;
 mod steps;
@@ -13,7 +14,7 @@ pub struct Clock {
     filled: usize,
     hand: usize,
     // The mark of each frame, so that there are as many as frames.
-    marks: ArrayVec<bool, 64>,
+    marks: ArrayVec<bool, MAX_FRAMES>,
     ghost fits: { filled ≤ array_vec_len marks },
     ghost within: { hand < array_vec_len marks },
 }

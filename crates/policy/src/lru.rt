@@ -4,6 +4,7 @@ ghost use Rattle.arrayvec.specs.ArrayVec.{array_vec_len};
 ghost use Rattle.base.specs.Lists.{member, distinct};
 
 use arrayvec::ArrayVec;
+use base::MAX_FRAMES;
 
 mod calls;
 mod order;
@@ -12,7 +13,7 @@ mod order;
 pub struct Lru {
     size: usize,
     // The filled frames, in order of their latest place or use.
-    order: ArrayVec<u8, 64>,
+    order: ArrayVec<u8, MAX_FRAMES>,
     ghost some: { 1 ≤ size },
     ghost most: { size ≤ 64 },
     ghost fits: { array_vec_len order ≤ size },

@@ -7,7 +7,7 @@ ghost use Rattle.policy.specs.Shapes.{ordered_shape};
 use super::Clock;
 use crate::policy::Policy;
 use arrayvec::ArrayVec;
-use base::{Geometry, Refusal};
+use base::{Geometry, MAX_FRAMES, Refusal};
 
 impl Policy for Clock {
     type Setting = ();
@@ -24,7 +24,7 @@ impl Policy for Clock {
 
     #[tactic(auto, using(crate::proofs::ClockSweeps::first_marks))]
     fn new(_setting: (), geometry: &Geometry) -> Clock {
-        let mut marks = ArrayVec::from([false; 64]);
+        let mut marks = ArrayVec::from([false; MAX_FRAMES]);
         marks.truncate(geometry.frames());
         Clock {
             filled: 0,
