@@ -1,7 +1,6 @@
 -- Which calls a disk serves.
-use Rattle.std.proofs.Common.{◌≡◌, ℕ, ◌<◌, true, false, eqb, ltb, is_ok, Ok, Err, sym, ap, inl, inr, arith}
+use Rattle.std.proofs.Common.{◌≡◌, ℕ, ◌<◌, true, false, eqb, ltb, is_ok, Ok, sym, ap, inl, inr, arith}
 use Rattle.std.proofs.lemmas.Bool.{cases_Bool, lt-ltb, ltb-true, eqb-true}
-use Rattle.base.specs.declared.refusal.Refusal.{Refusal}
 use Rattle.disk.specs.Meaning.{Meaning, answer, serves}
 
 -- a call with a whole buffer on a live sector is served
@@ -32,6 +31,3 @@ served m x n e = sym (ap is_ok e)
 
 pub live_answer : (m : Meaning) (x n : ℕ) → Ok tt ≡ answer m x n → Live m x n
 live_answer m x n e = live_served m x n (served m x n e)
-
-pub refused : (m : Meaning) (x n : ℕ) (r : Refusal) → Err r ≡ answer m x n → serves m x n ≡ false
-refused m x n r e = sym (ap is_ok e)

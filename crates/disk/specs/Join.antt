@@ -1,7 +1,5 @@
 -- What a joined disk means. Assumes nothing.
-use Rattle.std.specs.Prelude.{ℕ, ◌+◌, ◌-◌, min, cond, List, length, Ok, Err, Result, ◌==◌, nat_lt}
-use Rattle.base.specs.declared.refusal.Refusal.{Refusal}
-use Rattle.base.specs.declared.refusal.Refusal.TheVariants.{BufferLength, NoSuchSector}
+use Rattle.std.specs.Prelude.{ℕ, ◌+◌, ◌-◌, min, cond, List, length, nat_lt}
 use Rattle.disk.specs.Meaning.{Meaning, largest_count, serves, replaced}
 use Rattle.disk.specs.declared.disk.Disk as disks
 use Rattle.disk.specs.declared.joined.JoinedDisk.{JoinedDisk}
@@ -20,19 +18,9 @@ join_of a b reads writes = record {
   writes = writes;
 }
 
--- what a disk says of a call before it looks at the sector
-abbrev pub judged : Meaning → ℕ → ℕ → Result (Unit {0}) Refusal
-judged m sector len = cond (len == 512) (cond (nat_lt sector m.count) (Ok tt) (Err NoSuchSector)) (Err BufferLength)
-
 -- a disk with a sector rewritten, where a write is served, and its tallies as they were
 abbrev pub passed_write : Meaning → ℕ → List ℕ → Meaning
-passed_write m sector buffer = record {
-  count = m.count;
-  bytes = cond (serves m sector (length buffer)) (replaced m.bytes sector buffer) m.bytes;
-  dead = m.dead;
-  reads = m.reads;
-  writes = m.writes;
-}
+passed_write m sector buffer = record m { bytes = cond (serves m sector (length buffer)) (replaced m.bytes sector buffer) m.bytes }
 
 module _ {A B : Type 0} (a : disks.Ghosts A) (b : disks.Ghosts B) where
   abbrev pub joined : JoinedDisk A B → Meaning

@@ -26,10 +26,15 @@ raised n = min (n + 1) largest_tally
 abbrev pub replaced : {X : Type 0} → (ℕ → X) → ℕ → X → ℕ → X
 replaced f a v x = cond (x == a) v (f x)
 
--- How a call on a sector with a buffer of a length is answered: the length is judged first, then the number, then whether the sector is dead.
+-- How a call on a sector with a buffer of a length is answered: the length is judged first, then the number, then whether the
+-- sector is dead.
 abbrev pub answer : Meaning → ℕ → ℕ → Result (Unit {0}) Refusal
 answer m sector len =
     cond (len == 512) (cond (nat_lt sector m.count) (cond (m.dead sector) (Err DeadSector) (Ok tt)) (Err NoSuchSector)) (Err BufferLength)
+
+-- what a disk of so many sectors says of a call before it looks at the sector
+abbrev pub judged : ℕ → ℕ → ℕ → Result (Unit {0}) Refusal
+judged count sector len = cond (len == 512) (cond (nat_lt sector count) (Ok tt) (Err NoSuchSector)) (Err BufferLength)
 
 -- whether such a call is served
 abbrev pub serves : Meaning → ℕ → ℕ → Bool
@@ -37,10 +42,10 @@ serves m sector len = is_ok (answer m sector len)
 
 -- a disk that has served a read, and one that has served a write
 abbrev pub read_one : Meaning → Meaning
-read_one m = record { count = m.count; bytes = m.bytes; dead = m.dead; reads = raised m.reads; writes = m.writes }
+read_one m = record m { reads = raised m.reads }
 
 abbrev pub written_one : Meaning → ℕ → List ℕ → Meaning
-written_one m sector buffer = record { count = m.count; bytes = replaced m.bytes sector buffer; dead = m.dead; reads = m.reads; writes = raised m.writes }
+written_one m sector buffer = record m { bytes = replaced m.bytes sector buffer; writes = raised m.writes }
 
 -- the disk and the buffer after a read, and the disk after a write; a refusal changes nothing
 abbrev pub after_read : Meaning → ℕ → List ℕ → Meaning

@@ -1,5 +1,6 @@
 -- Lists of turns, as a disk alone serves them. Assumes nothing.
-use Rattle.std.specs.Prelude.{◌≡◌, ℕ, ◌+◌, min, Bool, true, false, cond, ◌&&◌, List, [], ◌∷◌, ◌++◌, length, Some, Ok, vec_items, Result, ◌==◌}
+use Rattle.std.specs.Prelude.{◌≡◌, ℕ, ◌+◌, min, Bool, true, false, cond, ◌&&◌, ◌==◌, List, [], ◌∷◌, ◌++◌, length}
+use Rattle.std.specs.Prelude.{Some, Ok, Result, vec_items}
 use Rattle.base.specs.declared.refusal.Refusal.{Refusal}
 use Rattle.disk.specs.declared.turn.Request.{Request}
 use Rattle.disk.specs.declared.turn.Request.TheVariants.{Read, Write, Flush}
@@ -62,10 +63,8 @@ module _ (m : Meaning) where
 
   -- the disk after the turns: each sector has the bytes of its last accepted write, and the tallies count the accepted calls
   abbrev pub after_turns : List Turn → Meaning
-  after_turns ts = record {
-    count = m.count;
+  after_turns ts = record m {
     bytes = λ x. latest (m.bytes x) x ts;
-    dead = m.dead;
     reads = min (m.reads + how_many reads_in ts) largest_tally;
     writes = min (m.writes + how_many writes_in ts) largest_tally;
   }

@@ -1,12 +1,9 @@
 // A disk: what its calls do is said once, by its meaning, and each kind of disk is proved to do it.
 ghost use Rattle.std.specs.Prelude.{◌≡◌, length};
-ghost use Rattle.disk.specs.Meaning.{Meaning, Sized, Tallied, answer, after_read, buffer_read, after_write};
+ghost use Rattle.disk.specs.Meaning.{Meaning, Sized, Tallied, answer, judged, after_read, buffer_read, after_write};
 
 use crate::tallies::Tallies;
-use base::Refusal;
-
-// The bytes of a sector.
-pub const SECTOR_BYTES: usize = 512;
+use base::{Refusal, SECTOR_BYTES};
 
 pub trait Disk {
     ghost meaning: { Self → Meaning };
@@ -37,4 +34,17 @@ pub trait Disk {
         ensures kept { sound self.new }
         ensures answers { result ≡ answer (meaning self.old) sector (length buffer.now) }
         ensures after { meaning self.new ≡ after_write (meaning self.old) sector buffer.now };
+}
+
+// What a disk of so many sectors refuses before it looks at the sector.
+pub(crate) fn judge(count: u32, sector: u32, len: usize) -> Result<(), Refusal>
+    ensures { result ≡ judged count sector len }
+{
+    if len != SECTOR_BYTES {
+        return Err(Refusal::BufferLength);
+    }
+    if sector >= count {
+        return Err(Refusal::NoSuchSector);
+    }
+    Ok(())
 }

@@ -8,7 +8,7 @@ mod serve;
 mod tallies;
 mod turn;
 
-pub use disk::{Disk, SECTOR_BYTES};
+pub use disk::Disk;
 pub use image::ImageDisk;
 pub use joined::JoinedDisk;
 pub use serve::serve_turns;

@@ -1,13 +1,13 @@
-// What the image disk does. Each call has its whole contract here; the trait's promise follows from it.
+// What the image disk does.
 ghost use Rattle.std.specs.Prelude.{◌≡◌, ℕ, ◌*◌, ◌/◌, ◌<◌, min, false, List, length, if◌then◌else◌};
 ghost use Rattle.base.specs.Lists.{member};
 ghost use Rattle.disk.specs.Meaning.{answer, serves, raised, largest_count, after_read, buffer_read, after_write};
 ghost use Rattle.disk.specs.Image.{imaged, image_of, image_written, sector_of};
 
 use super::ImageDisk;
-use crate::disk::{Disk, SECTOR_BYTES};
+use crate::disk::{Disk, judge};
 use crate::tallies::Tallies;
-use base::Refusal;
+use base::{Refusal, SECTOR_BYTES};
 
 // Copies a buffer into a whole sector of an image.
 fn copy_in(image: &mut [u8], sector: u32, buffer: &[u8])
@@ -31,13 +31,6 @@ impl<'a> ImageDisk<'a> {
         }
     }
 
-    fn sectors(&self) -> u32
-        ensures { result ≡ (imaged self.now).count }
-    {
-        let whole = self.image.len() / SECTOR_BYTES;
-        u32::try_from(whole).unwrap_or(u32::MAX)
-    }
-
     fn is_dead(&self, sector: u32) -> bool
         ensures { result ≡ member sector self.now.dead.now }
     {
@@ -47,12 +40,7 @@ impl<'a> ImageDisk<'a> {
     fn judge(&self, sector: u32, len: usize) -> Result<(), Refusal>
         ensures { result ≡ answer (imaged self.now) sector len }
     {
-        if len != SECTOR_BYTES {
-            return Err(Refusal::BufferLength);
-        }
-        if sector >= self.sectors() {
-            return Err(Refusal::NoSuchSector);
-        }
+        judge(self.count(), sector, len)?;
         if self.is_dead(sector) {
             return Err(Refusal::DeadSector);
         }
@@ -67,8 +55,26 @@ impl<'a> ImageDisk<'a> {
         let at = sector as usize * SECTOR_BYTES;
         buffer.copy_from_slice(&self.image[at..at + SECTOR_BYTES]);
     }
+}
 
-    pub fn read_sector(&mut self, sector: u32, buffer: &mut [u8]) -> Result<(), Refusal>
+impl Disk for ImageDisk<'_> {
+    ghost meaning = { imaged };
+
+    // nothing is asked
+    ghost sound = { λ _. Unit {0} };
+
+    #[tactic(auto, using(crate::proofs::Images::image_sized))]
+    fn count(&self) -> u32 {
+        let whole = self.image.len() / SECTOR_BYTES;
+        u32::try_from(whole).unwrap_or(u32::MAX)
+    }
+
+    fn tallies(&self) -> Tallies {
+        self.tallies.snapshot()
+    }
+
+    // Beside what the trait promises: a read leaves the image.
+    fn read(&mut self, sector: u32, buffer: &mut [u8]) -> Result<(), Refusal>
         ensures answers { result ≡ answer (imaged self.old) sector (length buffer.old) }
         ensures after { imaged self.new ≡ after_read (imaged self.old) sector buffer.old }
         ensures fills { buffer.new ≡ buffer_read (imaged self.old) sector buffer.old }
@@ -80,8 +86,9 @@ impl<'a> ImageDisk<'a> {
         Ok(())
     }
 
+    // And a write changes the image in its sector alone.
     #[tactic(auto, using(crate::proofs::Images::disk_written, crate::proofs::Images::image_put))]
-    pub fn write_sector(&mut self, sector: u32, buffer: &[u8]) -> Result<(), Refusal>
+    fn write(&mut self, sector: u32, buffer: &[u8]) -> Result<(), Refusal>
         ensures answers { result ≡ answer (imaged self.old) sector (length buffer.now) }
         ensures after { imaged self.new ≡ after_write (imaged self.old) sector buffer.now }
         ensures image { self.new.image.now ≡ (if serves (imaged self.old) sector (length buffer.now)
@@ -93,28 +100,5 @@ impl<'a> ImageDisk<'a> {
         copy_in(self.image, sector, buffer);
         self.tallies.count_write();
         Ok(())
-    }
-}
-
-impl Disk for ImageDisk<'_> {
-    ghost meaning = { imaged };
-
-    // nothing is asked
-    ghost sound = { λ _. Unit {0} };
-
-    fn count(&self) -> u32 {
-        self.sectors()
-    }
-
-    fn tallies(&self) -> Tallies {
-        self.tallies.snapshot()
-    }
-
-    fn read(&mut self, sector: u32, buffer: &mut [u8]) -> Result<(), Refusal> {
-        self.read_sector(sector, buffer)
-    }
-
-    fn write(&mut self, sector: u32, buffer: &[u8]) -> Result<(), Refusal> {
-        self.write_sector(sector, buffer)
     }
 }

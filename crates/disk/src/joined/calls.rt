@@ -1,10 +1,10 @@
 // What the joined disk does.
 ghost use Rattle.std.specs.Prelude.{◌≡◌, ℕ, ◌<◌, ◌≤◌, length};
-ghost use Rattle.disk.specs.Meaning.{Sized, answer, buffer_read};
-ghost use Rattle.disk.specs.Join.{joined, join_of, BothSound, judged, passed_write};
+ghost use Rattle.disk.specs.Meaning.{answer, buffer_read};
+ghost use Rattle.disk.specs.Join.{joined, join_of, BothSound, passed_write};
 
 use super::JoinedDisk;
-use crate::disk::{Disk, SECTOR_BYTES};
+use crate::disk::{Disk, judge};
 use crate::tallies::Tallies;
 use base::Refusal;
 
@@ -31,29 +31,6 @@ impl<A: Disk, B: Disk> JoinedDisk<A, B> {
             tallies: _,
         } = self;
         (first, second)
-    }
-
-    fn sectors(&self) -> u32
-        requires { BothSound A.Disk B.Disk self.now }
-        ensures value { result ≡ (joined A.Disk B.Disk self.now).count }
-        ensures sized { Sized (joined A.Disk B.Disk self.now) }
-    {
-        self.first.count().saturating_add(self.second.count())
-    }
-
-    // The refusals that the joined disk sees by itself. Where the sum of the counts is cut, a sector may lie past the
-    // end here and yet within the second disk.
-    fn judge(&self, sector: u32, len: usize) -> Result<(), Refusal>
-        requires { BothSound A.Disk B.Disk self.now }
-        ensures { result ≡ judged (joined A.Disk B.Disk self.now) sector len }
-    {
-        if len != SECTOR_BYTES {
-            return Err(Refusal::BufferLength);
-        }
-        if sector >= self.sectors() {
-            return Err(Refusal::NoSuchSector);
-        }
-        Ok(())
     }
 
     // Reads a sector from the disk that has it.
@@ -94,22 +71,23 @@ impl<A: Disk, B: Disk> Disk for JoinedDisk<A, B> {
     ghost sound = { λ d. BothSound A.Disk B.Disk d };
 
     fn count(&self) -> u32 {
-        self.sectors()
+        self.first.count().saturating_add(self.second.count())
     }
 
     fn tallies(&self) -> Tallies {
         self.tallies.snapshot()
     }
 
+    // Where the sum of the counts is cut, a sector may lie past the end here and yet within the second disk.
     fn read(&mut self, sector: u32, buffer: &mut [u8]) -> Result<(), Refusal> {
-        self.judge(sector, buffer.len())?;
+        judge(self.count(), sector, buffer.len())?;
         self.pass_read(sector, buffer)?;
         self.tallies.count_read();
         Ok(())
     }
 
     fn write(&mut self, sector: u32, buffer: &[u8]) -> Result<(), Refusal> {
-        self.judge(sector, buffer.len())?;
+        judge(self.count(), sector, buffer.len())?;
         self.pass_write(sector, buffer)?;
         self.tallies.count_write();
         Ok(())
