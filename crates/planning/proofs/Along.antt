@@ -2,17 +2,17 @@
 use Rattle.std.proofs.Common.{◌≡◌, ℕ, zero, suc, ◌+◌, ◌<◌, ◌≤◌, max, Bool, true, false, cond, eqb, ltb, List, [], ◌∷◌, ◌++◌, length, get_or, take, drop, set, Some, None, sym, refl, ap, ◌∙◌, subst, inl, inr, append_assoc, zero-add, add-one, arith}
 use Rattle.std.proofs.lemmas.Bool.Decides.{nat_tests}
 use Rattle.std.proofs.lemmas.Bool.{cases_Bool, cases_eq, cases_lt, lt-ltb, le-ltb, ltb-true, ltb-false, ne_eqb}
+use Rattle.std.proofs.lemmas.Option.{cond_some}
 use Rattle.std.proofs.lemmas.List.{length_push, length-set, get_or_push, get_or_append_left, get_or-set_same, get_or-set_other, drop_more, take_more_set, at_drop_more, at_drop_all, append-nil, drop-drop, drop-set-lt, take-append-drop}
 use Rattle.base.specs.Lists.{member, place_in, Apart}
 use Rattle.policy.specs.Machine.{put}
+use Rattle.policy.specs.Members.{place_within, index_place, apart_push, apart_set, member_index}
 use Rattle.index.specs.Maps.{Map, empty}
 use Rattle.planning.specs.Frames.{Shows, Room}
 use Rattle.planning.specs.Minimum.{furthest, min_frame, min_keys, min_serves, min_fetches}
 use Rattle.planning.specs.Chosen.{LowestFurthest, Chosen, NextTouch, next_of}
-use Rattle.planning.proofs.Members.{member_index}
-use Rattle.planning.proofs.Replays.{found_some, found_none}
+use Rattle.planning.proofs.Replays.{found_none}
 use Rattle.planning.proofs.Furthest.{furthest_lowest, furthest_lt, lowest_one}
-use Rattle.policy.specs.Members.{place_within, index_place, apart_push, apart_set}
 
 -- the keys that MIN holds after i touches
 abbrev pub min_after : ℕ → List ℕ → List ℕ → ℕ → List ℕ
@@ -118,7 +118,7 @@ module _ (h : ℕ) (xs next hs : List ℕ) (index : Map) (out : List ℕ) (n i :
       one_more false = omega arith
 
   found_frame : (f : ℕ) → index.at x ≡ Some f → (member x ks ≡ true) × (f ≡ place_in x ks)
-  found_frame f e = found_some index ks x f (a.shows.found x) e
+  found_frame f e = let q = cond_some (member x ks) _ f (sym (a.shows.found x) ∙ e) in (q.0, sym q.1)
 
   pub found_low : (f : ℕ) → index.at x ≡ Some f → f < length ks
   found_low f e = let q = found_frame f e in rw q.1 (place_within x ks q.0)
@@ -209,7 +209,7 @@ module _ (h : ℕ) (xs next hs : List ℕ) (index : Map) (places : ℕ) (before 
 
   pub serving_hit : (f : ℕ) → index.at (get_or xs i 0) ≡ Some f → Serving-along h xs next (set hs f i) index places before (set out i f) n filled (i + 1)
   serving_hit f e =
-      let q = found_some index (min_after h [] xs i) (get_or xs i 0) f (s.along.shows.found (get_or xs i 0)) e in
+      let q = found_frame h xs next hs index out n i s.along low nexts f e in
       let same : min_after h [] xs (i + 1) ≡ min_after h [] xs i = after_more h [] xs i low ∙ rw q.0 in
       record {
         along = along_hit h xs next hs index out n i s.along low nexts f e room wide;

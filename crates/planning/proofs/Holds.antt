@@ -6,12 +6,12 @@ use Rattle.std.proofs.lemmas.Bool.{cases_Bool, cases_eq, cases_lt, lt-ltb, le-lt
 use Rattle.std.proofs.lemmas.List.{ext_get_or, get_or-map, get_or-take, length-map, length-take-le, length_push, length-set, get_or_push, get_or_append_left, get_or-set_same, get_or-set_other}
 use Rattle.base.specs.Lists.{member, Apart}
 use Rattle.policy.specs.Machine.{put}
+use Rattle.policy.specs.Members.{member_index}
 use Rattle.index.specs.Slots.{map_of, Sound}
 use Rattle.planning.specs.declared.held.HeldKeys.{HeldKeys}
 use Rattle.index.specs.Maps.{Map, empty, stored, after_remove, has, accepts, put_answer, after_put}
 use Rattle.planning.specs.Frames.{keys_at, frame_of, Shows, Room, Unfilled, without_frame}
 use Rattle.planning.proofs.Judged.{code_at}
-use Rattle.planning.proofs.Members.{member_index}
 
 -- one frame more, with a new key
 frame_push : (keys : List ℕ) (x y : ℕ) → member x keys ≡ false →

@@ -1,5 +1,5 @@
 -- Which keys stand in a list, and how many. Assumes nothing.
-use Rattle.std.proofs.Common.{◌≡◌, ℕ, zero, suc, ◌<◌, ◌≤◌, true, false, List, [], ◌∷◌, ◌++◌, length, get_or, arith}
+use Rattle.std.proofs.Common.{◌≡◌, ℕ, suc, ◌≤◌, true, false, List, [], ◌∷◌, ◌++◌, length, arith}
 use Rattle.std.proofs.lemmas.Bool.Decides.{nat_tests}
 use Rattle.base.specs.Lists.{member, distinct, without}
 
@@ -38,9 +38,3 @@ distinct_within (x ∷ xs) ys part =
     let fresh : member x xs ≡ false → distinct xs ≤ length (without x ys) =
     λ none. distinct_within xs (without x ys) (λ z e. without_other z x ys (λ same. grind arith) (tail z e)) in
     grind (arith, fresh, distinct_within xs ys tail, length_without x ys here)
-
--- what a list has at a place is one of its members
-pub member_index : (xs : List ℕ) (i : ℕ) → i < length xs → member (get_or xs i 0) xs ≡ true
-member_index [] i h = absurd (omega arith)
-member_index (x ∷ xs) zero h = grind (arith, nat_tests)
-member_index (x ∷ xs) (suc i) h = let ih = member_index xs i in grind (arith, nat_tests)

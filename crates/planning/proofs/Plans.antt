@@ -7,7 +7,7 @@ use Rattle.base.specs.declared.geometry.Geometry.{Geometry}
 use Rattle.base.specs.declared.refusal.Refusal.{Refusal}
 use Rattle.policy.specs.Machine.{Rules, start, fetches}
 use Rattle.planning.specs.Minimum.{min_keys, min_fetches}
-use Rattle.planning.specs.Plan.{Places, enough, ceiling, plan_of, plan_answer, planned, forecasted}
+use Rattle.planning.specs.Plan.{Places, room_in, enough, ceiling, plan_of, plan_answer, planned, forecasted}
 use Rattle.planning.specs.Replay.{most_touches, lists_answer}
 use Rattle.planning.proofs.Judged.{never, same_ok}
 
@@ -33,17 +33,16 @@ plan_passed n k h held p e = elim (cases_Bool (leb 1 k && leb k 64)) [
       | inl c ↦ elim (cases_Bool (leb 1 h && leb h k)) [
         | inl d ↦
             let f = and_parts (leb 1 k) (leb k 64) a in
-            let q = and_parts (leb n p.slots) (leb n p.next && (leb n p.serving && leb held p.held)) c in
-            let r = and_parts (leb n p.next) (leb n p.serving && leb held p.held) q.1 in
-            let s = and_parts (leb n p.serving) (leb held p.held) r.1 in
+            let q = and_parts (leb n (room_in p)) (leb held p.held) c in
+            let room = leb-true n (room_in p) q.0 in
             let t = and_parts (leb 1 h) (leb h k) d in
             record {
               frames = (leb-true 1 k f.0, leb-true k 64 f.1);
               few = leb-true n most_touches b;
-              slots_for = leb-true n p.slots q.0;
-              next_for = leb-true n p.next r.0;
-              serving_for = leb-true n p.serving s.0;
-              held_for = leb-true held p.held s.1;
+              slots_for = omega (arith, room);
+              next_for = omega (arith, room);
+              serving_for = omega (arith, room);
+              held_for = leb-true held p.held q.1;
               smaller = (leb-true 1 h t.0, leb-true h k t.1);
             }
         | inr d ↦ absurd (never _ tt (sym (rw (a, b, c, d) at e)))
@@ -110,8 +109,7 @@ pub plan_passes : (n k h : ℕ) (p : Places) → Passed n k h (max k h) p → Ok
 plan_passes n k h p q = rw (
   and_from (leb 1 k) (leb k 64) (le-leb 1 k q.frames.0) (le-leb k 64 q.frames.1),
   le-leb n most_touches q.few,
-  and_from (leb n p.slots) _ (le-leb n p.slots q.slots_for)
-      (and_from (leb n p.next) _ (le-leb n p.next q.next_for) (and_from (leb n p.serving) (leb h p.held) (le-leb n p.serving q.serving_for) (le-leb h p.held (omega (arith, q.held_for))))),
+  and_from (leb n (room_in p)) (leb h p.held) (le-leb n (room_in p) (omega (arith, q.slots_for, q.next_for, q.serving_for))) (le-leb h p.held (omega (arith, q.held_for))),
   and_from (leb 1 h) (leb h k) (le-leb 1 h q.smaller.0) (le-leb h k q.smaller.1),
 )
 

@@ -1,5 +1,6 @@
 -- The replay's pass over the touches, one after another.
-use Rattle.std.proofs.Common.{◌≡◌, ℕ, ◌+◌, ◌<◌, ◌≤◌, max, true, false, cond, ltb, List, [], ◌∷◌, ◌++◌, length, get_or, take, set, Some, None, Ok, sym, refl, ap, ◌∙◌, inl, inr, arith}
+use Rattle.std.proofs.Common.{◌≡◌, ℕ, ◌+◌, ◌<◌, ◌≤◌, max, false, cond, ltb, List, [], ◌∷◌, ◌++◌, length, get_or, take, set, Some, None, Ok, sym, refl, ap, ◌∙◌, inl, inr, arith}
+use Rattle.std.proofs.lemmas.Option.{cond_some}
 use Rattle.std.proofs.lemmas.List.{take_all, take_more, length-take-le, length_push, length-set}
 use Rattle.std.proofs.lemmas.Bool.{cases_Bool, cases_lt, lt-ltb, cond_both}
 use Rattle.base.specs.Lists.{member, place_in}
@@ -10,13 +11,7 @@ use Rattle.policy.specs.Machines.{touched_push, fetches_push, fetches_most, runn
 use Rattle.index.specs.Maps.{Map, empty}
 use Rattle.planning.specs.Frames.{frame_of, Shows, Room}
 
--- a frame that the index finds, and a key that it does not
-pub found_some : (index : Map) (keys : List ℕ) (x f : ℕ) → index.at x ≡ frame_of keys x → index.at x ≡ Some f → (member x keys ≡ true) × (f ≡ place_in x keys)
-found_some index keys x f sh e = let w : frame_of keys x ≡ Some f = sym sh ∙ e in elim (cases_Bool (member x keys)) [
-  | inl m ↦ (m, let q : Some (place_in x keys) ≡ Some f = rw m at w in cc)
-  | inr m ↦ absurd (let q : None ≡ Some f = rw m at w in let z : ◌≡◌ {A = ℕ} 0 1 = cc in omega arith)
-]
-
+-- a key that the index does not find
 pub found_none : (index : Map) (keys : List ℕ) (x : ℕ) → index.at x ≡ frame_of keys x → index.at x ≡ None → member x keys ≡ false
 found_none index keys x sh e = let w : frame_of keys x ≡ None = sym sh ∙ e in elim (cases_Bool (member x keys)) [
   | inl m ↦ absurd (let q : Some (place_in x keys) ≡ None = rw m at w in let z : ◌≡◌ {A = ℕ} 0 1 = cc in omega arith)
@@ -90,17 +85,17 @@ module _ {Setting State : Type 0} (r : Rules Setting State) (m₀ : Machine Stat
     -- a hit: the frame that is found is filled, so its use is not refused
     pub hit_accepted : (f : ℕ) → index.at x ≡ Some f → use_answer r s f ≡ Ok tt
     hit_accepted f e =
-        let g = found_some index m.keys x f (q.shows.found x) e in
-        let l : f < r.filled s = rw (q.state, g.1) (hit_filled shape m running x g.0) in
+        let g = cond_some (member x m.keys) _ f (sym (q.shows.found x) ∙ e) in
+        let l : f < r.filled s = rw (q.state, ← g.1) (hit_filled shape m running x g.0) in
         rw (lt-ltb f (r.filled s) l)
 
     pub replaying_hit : (f : ℕ) (s' : State) → index.at x ≡ Some f → s' ≡ after_use r s f → Replaying xs hs index places (i + 1) s' n filled
     replaying_hit f s' e es =
-        let g = found_some index m.keys x f (q.shows.found x) e in
-        let l : f < r.filled s = rw (q.state, g.1) (hit_filled shape m running x g.0) in
+        let g = cond_some (member x m.keys) _ f (sym (q.shows.found x) ∙ e) in
+        let l : f < r.filled s = rw (q.state, ← g.1) (hit_filled shape m running x g.0) in
         let e' : touched r m₀ (take (i + 1) xs) ≡ hit r m x = one_more ∙ rw g.0 in
         record {
-          state = rw (e', es, lt-ltb f (r.filled s) l, q.state, g.1);
+          state = rw (e', es, lt-ltb f (r.filled s) l, q.state, ← g.1);
           count = rw (count_more, g.0) (omega (arith, q.count));
           filled_is = rw e' q.filled_is;
           shows = rw e' q.shows;

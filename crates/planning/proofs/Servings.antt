@@ -2,27 +2,18 @@
 use Rattle.std.proofs.Common.{◌≡◌, ℕ, ◌<◌, ◌≤◌, Bool, true, false, ltb, List, [], ◌∷◌, ◌++◌, length, get_or, set, refl, inl, inr, zero-add, one-add, arith, length-set}
 use Rattle.std.proofs.lemmas.List.{length_push}
 use Rattle.std.proofs.lemmas.Bool.{ltb-true, ltb-false, cases_Bool}
-use Rattle.std.proofs.lemmas.Bool.Decides.{nat_tests}
-use Rattle.base.specs.Lists.{member, place_in, without}
+use Rattle.base.specs.Lists.{member, without}
+use Rattle.policy.specs.Members.{place_within, index_place, member_index}
 use Rattle.planning.specs.Minimum.{furthest, min_serves, min_fetches}
 use Rattle.planning.specs.Schedules.{Demand, Serving, done, hit, fill, swap}
 use Rattle.planning.proofs.Within.{within, within_push, within_set, within_has, within_lacks, within_without}
-use Rattle.planning.proofs.Members.{length_without, member_index}
+use Rattle.planning.proofs.Members.{length_without}
 use Rattle.planning.proofs.Furthest.{furthest_lt}
-
--- the frame that holds x
-place_lt : (x : ℕ) (keys : List ℕ) → member x keys ≡ true → place_in x keys < length keys
-place_lt x [] h = grind arith
-place_lt x (y ∷ ys) h = grind (arith, nat_tests, place_lt x ys)
-
-place_index : (x : ℕ) (keys : List ℕ) → member x keys ≡ true → get_or keys (place_in x keys) 0 ≡ x
-place_index x [] h = grind arith
-place_index x (y ∷ ys) h = grind (arith, nat_tests, place_index x ys)
 
 pub min_serving : (h : ℕ) → 1 ≤ h → (keys touches : List ℕ) → length keys ≤ h → Serving h keys touches (min_serves h keys touches) (min_fetches h keys touches)
 min_serving h some keys [] few = done
 min_serving h some keys (x ∷ rest) few = elim (cases_Bool (member x keys)) [
-  | inl has ↦ rw (has, zero-add) (hit (place_lt x keys has) (place_index x keys has) (min_serving h some keys rest few))
+  | inl has ↦ rw (has, zero-add) (hit (place_within x keys has) (index_place x keys has) (min_serving h some keys rest few))
   | inr lacks ↦ elim (cases_Bool (ltb (length keys) h)) [
     | inl e ↦
         let room = ltb-true (length keys) h e in

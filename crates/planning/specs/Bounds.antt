@@ -16,11 +16,12 @@ ServingsAreSchedules = (h d : ℕ) (touches frames : List ℕ) → Serving h [] 
 -- The bound over a stretch: what a policy with k frames fetches in it, whatever came before, against a schedule on h frames that
 -- enters the stretch with any keys.
 abbrev pub Competitive : {Setting State : Type 0} → Rules Setting State → Type 0
-Competitive {Setting} r = (c : Setting) (k h d : ℕ) (before stretch held : List ℕ) → 1 ≤ h → h ≤ k → length held ≤ h → Demand h held stretch d →
+Competitive {Setting} r = (c : Setting) (k h d : ℕ) (before stretch held : List ℕ) →
+    1 ≤ h → h ≤ k → length held ≤ h → Demand h held stretch d →
     (k - h + 1) * fetches r (touched r (start r c k) before) stretch ≤ k * d + k * (k - h + 1)
 
--- What a forecast promises of touches on k frames and a schedule on h: the plan's schedule is optimal with d fetches; against every schedule on h
--- frames the policy's fetches f keep the bound; and they are at most the ceiling.
+-- What a forecast promises of touches on k frames and a schedule on h: the plan's schedule is optimal with d fetches; against
+-- every schedule on h frames the policy's fetches f keep the bound; and they are at most the ceiling.
 pub record Bounded (k h : ℕ) (touches frames : List ℕ) (d ceiling f : ℕ) : Type 0 where
   pub optimal : Optimal h touches frames d
   pub bound : (e : ℕ) → Demand h [] touches e → (k - h + 1) * f ≤ k * e + k * (k - h + 1)

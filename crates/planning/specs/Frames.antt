@@ -31,7 +31,8 @@ pub record Room (touches held : List ℕ) (index : Map) (keys : List ℕ) (frame
 
 -- an index without the key that a filled frame holds
 abbrev pub without_frame : List ℕ → List ℕ → Map → ℕ → ℕ → Map
-without_frame touches held index frame filled = cond (nat_lt frame filled) (after_remove index (slice_index touches (slice_index held frame))) index
+without_frame touches held index frame filled =
+    cond (nat_lt frame filled) (after_remove index (slice_index touches (slice_index held frame))) index
 
 -- no frame is filled yet
 pub record Unfilled {K : Type 0} (code spread : K → ℕ) (frames : HeldKeys K) : Type 0 where

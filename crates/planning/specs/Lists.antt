@@ -16,8 +16,9 @@ pub record Unchanged {K : Type 0} (before after : Lists K) : Type 0 where
 abbrev pub AsLong : {K : Type 0} → Lists K → Lists K → Type 0
 AsLong before after = places after ≡ places before
 
--- each list is the one that was lent, so that what is said of it holds of the caller's own
+-- each list is still the one that was lent, so that what is said of it holds of the caller's own, and as long as it was
 pub record SameLists {K : Type 0} (before after : Lists K) : Type 0 where
+  pub long : AsLong before after
   pub slots : after.slots.ghost_name ≡ before.slots.ghost_name
   pub next : after.next.ghost_name ≡ before.next.ghost_name
   pub held : after.held.ghost_name ≡ before.held.ghost_name

@@ -15,7 +15,8 @@ min_frame h keys x rest = cond (member x keys) (place_in x keys) (cond (nat_lt (
 
 -- the keys held after it
 abbrev pub min_keys : ℕ → List ℕ → ℕ → List ℕ → List ℕ
-min_keys h keys x rest = cond (member x keys) keys (cond (nat_lt (length keys) h) (keys ++ (x ∷ [])) (slice_set keys (furthest keys rest) x))
+min_keys h keys x rest =
+    cond (member x keys) keys (cond (nat_lt (length keys) h) (keys ++ (x ∷ [])) (slice_set keys (furthest keys rest) x))
 
 abbrev pub min_serves : ℕ → List ℕ → List ℕ → List ℕ
 min_serves h keys [] = []

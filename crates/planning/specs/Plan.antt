@@ -1,5 +1,5 @@
 -- What planning answers. Assumes nothing.
-use Rattle.std.specs.Prelude.{ℕ, ◌+◌, ◌-◌, ◌*◌, ◌/◌, max, Bool, cond, ◌&&◌, List, [], length, Ok, Err, Result, nat_le}
+use Rattle.std.specs.Prelude.{ℕ, ◌+◌, ◌-◌, ◌*◌, ◌/◌, min, max, Bool, cond, ◌&&◌, List, [], length, Ok, Err, Result, nat_le}
 use Rattle.base.specs.declared.refusal.Refusal.{Refusal}
 use Rattle.base.specs.declared.refusal.Refusal.TheVariants.{FrameCount, ListTooLong, TooFewPlaces, SmallerFrameCount}
 use Rattle.policy.specs.Machine.{Rules, start, fetches}
@@ -19,9 +19,13 @@ pub record Places : Type 0 where
   pub held : ℕ
   pub serving : ℕ
 
+-- how many touches they have places for
+abbrev pub room_in : Places → ℕ
+room_in p = min (min p.slots p.next) p.serving
+
 -- whether they suffice for so many touches and h frames
 abbrev pub enough : ℕ → ℕ → Places → Bool
-enough touches h p = nat_le touches p.slots && (nat_le touches p.next && (nat_le touches p.serving && nat_le h p.held))
+enough touches h p = nat_le touches (room_in p) && nat_le h p.held
 
 -- the plan for k frames by a schedule on h
 abbrev pub plan_of : List ℕ → ℕ → ℕ → Plan
@@ -55,7 +59,8 @@ forecasted r c touches k h p =
     cond (nat_le 1 k && nat_le k 64)
     (cond (nat_le (length touches) most_touches)
     (cond (enough (length touches) (max k h) p)
-    (cond (nat_le 1 h && nat_le h k) (Ok (record { plan = plan_of touches k h; fetches = fetches r (start r c k) touches })) (Err SmallerFrameCount))
+    (cond (nat_le 1 h && nat_le h k) (Ok (record { plan = plan_of touches k h; fetches = fetches r (start r c k) touches }))
+    (Err SmallerFrameCount))
     (Err TooFewPlaces))
     (Err ListTooLong))
     (Err FrameCount)

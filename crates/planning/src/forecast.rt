@@ -5,7 +5,7 @@ mod calls;
 
 pub use calls::forecast_touches;
 
-#[derive(Clone, Copy)]
+#[derive(Clone, Copy, PartialEq, Eq, Debug)]
 pub struct Forecast {
     pub plan: Plan,
     pub fetches: u64,

@@ -1,13 +1,12 @@
-// Which keys the frames hold: the index has a held key's frame, the held-key list a frame's key, by the place of its
-// latest touch in the list of touches.
+// Which keys the frames hold: the index has a held key's frame, the held-key list a frame's key, by the place of a touch of it in
+// the list of touches. In MIN's schedule that is the key's latest touch, in the replay the one that fetched it.
 ghost use Rattle.std.specs.Prelude.{◌≡◌, ℕ, ◌+◌, ◌<◌, ◌≤◌, max, map, length, slice_index, slice_set};
 ghost use Rattle.policy.specs.Machine.{put};
 ghost use Rattle.index.specs.Maps.{empty};
 ghost use Rattle.index.specs.Slots.{map_of, Sound};
-ghost use Rattle.planning.specs.Chosen.{Chosen, HeldBelow, next_of};
+ghost use Rattle.planning.specs.Chosen.{HeldBelow};
 ghost use Rattle.planning.specs.Frames.{held_codes, Holds, HasRoom, emptied};
 
-use crate::choose::choose_frame;
 use base::Key;
 use index::{Index, Slot};
 
@@ -19,7 +18,7 @@ pub struct HeldKeys<'a, K> {
 }
 
 impl<'a, K: Key> HeldKeys<'a, K> {
-    // No frame is filled, whatever the lists had.
+    // As many frames as the held-key list has places. None is filled, whatever the lists had.
     pub fn new(slots: &'a mut [Slot<K>], held: &'a mut [u32]) -> HeldKeys<'a, K>
         ensures sound { Sound K.Key.code K.Key.spread result.index }
         ensures map { map_of K.Key.code result.index ≡ empty (length slots.old) }
@@ -41,13 +40,14 @@ impl<'a, K: Key> HeldKeys<'a, K> {
         self.index.find(key).map(|frame| frame as usize)
     }
 
-    // The frame for a fetched key, by where the touches' keys are touched again.
-    pub fn choose(&self, next: &[u32], size: usize) -> usize
-        requires some { (1 ≤ size) × ((size ≤ length self.now.held.now) × (self.now.filled ≤ size)) }
-        requires inside { HeldBelow self.now.filled self.now.held.now (length next.now) }
-        ensures { Chosen self.now.filled size (next_of next.now self.now.held.now) result }
+    // Notes a touch of the key that a frame holds, by its place in the list.
+    pub fn touch(&mut self, frame: usize, place: usize)
+        requires { (frame < length self.old.held.now) × (place < 4096) }
+        ensures index { self.new.index ≡ self.old.index }
+        ensures held { self.new.held.now ≡ slice_set self.old.held.now frame place }
+        ensures filled { self.new.filled ≡ self.old.filled }
     {
-        choose_frame(next, self.held, self.filled, size)
+        self.held[frame] = place as u32;
     }
 
     // Puts the key that a filled frame holds out of the index.

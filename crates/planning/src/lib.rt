@@ -13,4 +13,4 @@ mod replay;
 pub use forecast::{Forecast, forecast_touches};
 pub use lists::Lists;
 pub use plan::{Plan, ceiling, plan_touches};
-pub use replay::{MOST_TOUCHES, replay as replay_keys};
+pub use replay::replay as replay_keys;

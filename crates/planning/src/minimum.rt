@@ -11,28 +11,28 @@ use base::Key;
 // `next` has for each touch where its key is touched again.
 pub fn serve_touches<K: Key>(
     keys: &[K],
-    size: usize,
     frames: &mut HeldKeys<'_, K>,
     next: &[u32],
     serving: &mut [u8],
 ) -> u64
-    requires size { (1 ≤ size) × ((size ≤ 64) × (size ≤ length frames.old.held.now)) }
+    requires size { (1 ≤ length frames.old.held.now) × (length frames.old.held.now ≤ 64) }
     requires empty { Unfilled K.Key.code K.Key.spread frames.old }
     requires few { (length keys.now ≤ 4096) × ((length keys.now ≤ (map_of K.Key.code frames.old.index).places)
         × ((length keys.now ≤ length next.now) × (length keys.now ≤ length serving.old))) }
     requires next { NextTouches K.Key.code keys.now next.now }
-    ensures answer { result ≡ min_fetches size [] (map K.Key.code keys.now) }
-    ensures serving { serving.new ≡ min_serves size [] (map K.Key.code keys.now) ++ drop (length keys.now) serving.old }
+    ensures answer { result ≡ min_fetches (length frames.old.held.now) [] (map K.Key.code keys.now) }
+    ensures serving { serving.new ≡ min_serves (length frames.old.held.now) [] (map K.Key.code keys.now)
+        ++ drop (length keys.now) serving.old }
 {
     let mut fetches = 0;
     for (place, key) in keys.iter().enumerate() {
         let frame = match frames.frame_of(key) {
             Some(frame) => {
-                frames.held[frame] = place as u32;
+                frames.touch(frame, place);
                 frame
             }
             None => {
-                let frame = frames.choose(next, size);
+                let frame = frames.choose(next);
                 frames.hold(keys, frame, place);
                 fetches += 1;
                 frame

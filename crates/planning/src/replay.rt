@@ -8,18 +8,15 @@ ghost use Rattle.planning.specs.Frames.{Unfilled};
 ghost use Rattle.planning.specs.Replay.{replayed, lists_answer, idle};
 
 use crate::held::HeldKeys;
-use base::{Geometry, Key, Refusal};
+use base::{Geometry, Key, MAX_TOUCHES, Refusal};
 use index::Slot;
 use policy::Policy;
-
-// The most touches that a list may have.
-pub const MOST_TOUCHES: usize = 4096;
 
 // Refuses a list that is too long, then lists of the caller's that have too few places.
 fn check_lists(touches: usize, slots: usize, frames: usize, held: usize) -> Result<(), Refusal>
     ensures { result ≡ lists_answer touches slots frames held }
 {
-    if touches > MOST_TOUCHES {
+    if touches > MAX_TOUCHES {
         return Err(Refusal::ListTooLong);
     }
     if slots < touches || held < frames {
@@ -32,7 +29,7 @@ fn check_lists(touches: usize, slots: usize, frames: usize, held: usize) -> Resu
 fn count_fetches<P: Policy, K: Key>(policy: &mut P, keys: &[K], frames: &mut HeldKeys<'_, K>) -> u64
     requires runs { Running P.Policy.rules (P.Policy.rules.frames (P.Policy.model policy.old)) (idle (P.Policy.model policy.old)) }
     requires places { (P.Policy.rules.frames (P.Policy.model policy.old) ≤ 64)
-        × (P.Policy.rules.frames (P.Policy.model policy.old) ≤ length frames.old.held.now) }
+        × (P.Policy.rules.frames (P.Policy.model policy.old) ≡ length frames.old.held.now) }
     requires empty { Unfilled K.Key.code K.Key.spread frames.old }
     requires few { (length keys.now ≤ 4096) × (length keys.now ≤ (map_of K.Key.code frames.old.index).places) }
     ensures { result ≡ fetches P.Policy.rules (idle (P.Policy.model policy.old)) (map K.Key.code keys.now) }
@@ -66,8 +63,9 @@ where
     ensures slots { is_ok result ≡ false → slots.new ≡ slots.old }
     ensures held { is_ok result ≡ false → held.new ≡ held.old }
 {
-    check_lists(keys.len(), slots.len(), geometry.frames(), held.len())?;
+    let frames = geometry.frames();
+    check_lists(keys.len(), slots.len(), frames, held.len())?;
     let mut policy = P::new(setting, geometry);
-    let mut frames = HeldKeys::new(slots, held);
-    Ok(count_fetches(&mut policy, keys, &mut frames))
+    let mut keys_held = HeldKeys::new(slots, &mut held[..frames]);
+    Ok(count_fetches(&mut policy, keys, &mut keys_held))
 }

@@ -3,7 +3,7 @@ ghost use Rattle.std.specs.Prelude.{◌≡◌, ℕ, ◌<◌, ◌≤◌, false, [
 ghost use Rattle.std.specs.Prelude.{is_ok, IfOk, if◌then◌else◌};
 ghost use Rattle.planning.specs.Bounds.{Competitive, Bounded};
 ghost use Rattle.planning.specs.Minimum.{min_serves};
-ghost use Rattle.planning.specs.Lists.{places, Unchanged, AsLong, SameLists};
+ghost use Rattle.planning.specs.Lists.{places, Unchanged, SameLists};
 ghost use Rattle.planning.specs.Plan.{forecasted};
 
 use super::Forecast;
@@ -33,7 +33,6 @@ where
         f.plan.fetches f.plan.ceiling f.fetches) }
     ensures competitive { Competitive P.Policy.rules }
     ensures refused { is_ok result ≡ false → Unchanged lists.old lists.new }
-    ensures long { AsLong lists.old lists.new }
     ensures same { SameLists lists.old lists.new }
 {
     check_plan(keys.len(), frames, smaller, frames.max(smaller), lists)?;

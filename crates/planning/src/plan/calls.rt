@@ -4,7 +4,7 @@ ghost use Rattle.std.specs.Prelude.{is_ok, IfOk, if◌then◌else◌};
 ghost use Rattle.planning.specs.Bounds.{Optimal, ServingsAreSchedules};
 ghost use Rattle.planning.specs.Chosen.{NextTouches};
 ghost use Rattle.planning.specs.Minimum.{min_serves, min_fetches};
-ghost use Rattle.planning.specs.Lists.{places, Unchanged, AsLong, SameLists};
+ghost use Rattle.planning.specs.Lists.{places, Unchanged, SameLists};
 ghost use Rattle.planning.specs.Plan.{ceiling as ceiling_at, planned, plan_answer};
 
 use super::Plan;
@@ -12,9 +12,8 @@ use crate::held::HeldKeys;
 use crate::lists::Lists;
 use crate::minimum::serve_touches;
 use crate::next::next_touches;
-use crate::replay::MOST_TOUCHES;
-use base::{Key, Refusal};
-use index::{Index, Slot};
+use base::{Key, MAX_FRAMES, MAX_TOUCHES, Refusal};
+use index::Slot;
 
 // The ceiling on the fetches of so many frames, from the fetches of a schedule on a smaller number of frames. It is computed in 128
 // bits, in which nothing wraps.
@@ -36,32 +35,19 @@ pub fn check_plan<K>(
 ) -> Result<(), Refusal>
     ensures { result ≡ plan_answer touches frames smaller held (places lists.now) }
 {
-    if frames == 0 || frames > 64 {
+    if frames == 0 || frames > MAX_FRAMES {
         return Err(Refusal::FrameCount);
     }
-    if touches > MOST_TOUCHES {
+    if touches > MAX_TOUCHES {
         return Err(Refusal::ListTooLong);
     }
-    if lists.slots.len() < touches
-        || lists.next.len() < touches
-        || lists.serving.len() < touches
-        || lists.held.len() < held
-    {
+    if lists.room() < touches || lists.held.len() < held {
         return Err(Refusal::TooFewPlaces);
     }
     if smaller == 0 || smaller > frames {
         return Err(Refusal::SmallerFrameCount);
     }
     Ok(())
-}
-
-// The next-touch list, by an index over the slots.
-fn find_next<K: Key>(keys: &[K], slots: &mut [Slot<K>], next: &mut [u32])
-    requires { (length keys.now ≤ 4096) × ((length keys.now ≤ length slots.old) × (length keys.now ≤ length next.old)) }
-    ensures { NextTouches K.Key.code keys.now next.new }
-{
-    let mut index = Index::new(slots);
-    next_touches(keys, &mut index, next);
 }
 
 // MIN's fetches and its serving frames. The lists come one by one, since an index keeps its slots while the others are used.
@@ -80,8 +66,8 @@ fn run_min<K: Key>(
     ensures answer { result ≡ min_fetches frames [] (map K.Key.code keys.now) }
     ensures serving { serving.new ≡ min_serves frames [] (map K.Key.code keys.now) ++ drop (length keys.now) serving.old }
 {
-    let mut keys_held = HeldKeys::new(slots, held);
-    serve_touches(keys, frames, &mut keys_held, next, serving)
+    let mut keys_held = HeldKeys::new(slots, &mut held[..frames]);
+    serve_touches(keys, &mut keys_held, next, serving)
 }
 
 // The plan for a list of keys: `frames` of the machine that runs, and a schedule on the smaller number of frames.
@@ -99,11 +85,10 @@ pub fn plan_touches<K: Key>(
         Optimal smaller (map K.Key.code keys.now) (take (length keys.now) lists.new.serving.now) p.fetches) }
     ensures schedules { ServingsAreSchedules }
     ensures refused { is_ok result ≡ false → Unchanged lists.old lists.new }
-    ensures long { AsLong lists.old lists.new }
     ensures same { SameLists lists.old lists.new }
 {
     check_plan(keys.len(), frames, smaller, smaller, lists)?;
-    find_next(keys, lists.slots, lists.next);
+    next_touches(keys, lists.slots, lists.next);
     let next = &mut *lists.next;
     let fetches = run_min(keys, smaller, lists.slots, next, lists.held, lists.serving);
     let ceiling = ceiling(frames as u64, smaller as u64, fetches) as u64;

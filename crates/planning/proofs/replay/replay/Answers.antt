@@ -1,5 +1,5 @@
 use Rattle.std.proofs.Common.{◌≡◌, ℕ, List, map, length, Ok, Err, sym, refl, ap, ◌∙◌, arith}
-use Rattle.std.proofs.lemmas.List.{length-map}
+use Rattle.std.proofs.lemmas.List.{length-map, length-take-le}
 use Rattle.std.proofs.lemmas.Result.{err_from_is_err_and}
 use Rattle.std.proofs.lemmas.Bool.{true≢false}
 use Rattle.base.specs.Geometries.{frames_of}
@@ -22,7 +22,7 @@ returns-in_err-check_lists g c =
     let code = g.K.Key.code in
     let xs = map code c.args.keys.now in
     let p = err_from_is_err_and c.from_residual.result c.from_residual.ensures.1 in
-    let judged = c.in_err-check_lists.ensures ∙ listed code c.args.keys.now _ _ _ _ c.frames.ensures.value in
+    let judged = c.in_err-check_lists.ensures ∙ listed code c.args.keys.now _ _ _ _ c.frames-frames.ensures.value in
     record {
       answer = p.1 ∙ ap Err p.2 ∙ replayed_refused r c.args.setting _ xs _ _ _ judged;
       slots = λ _. refl;
@@ -33,14 +33,15 @@ pub count_fetches-requires : goal.count_fetches-requires
 count_fetches-requires g c =
     let r = g.P.Policy.rules in
     let k = frames_of c.args.geometry.now in
-    let b = c.frames.ensures.bounded in
+    let b = c.frames-frames.ensures.bounded in
     let e = lists_enough _ _ _ _ c.in_ok-check_lists.ensures in
-    let places : (map_of g.K.Key.code c.new-frames.result.index).places ≡ length c.args.slots.now = ap (λ (n : Map). n.places) c.new-frames.ensures.map in
+    let places : (map_of g.K.Key.code c.new-keys_held.result.index).places ≡ length c.args.slots.now = ap (λ (n : Map). n.places) c.new-keys_held.ensures.map in
     let frames : r.frames (g.P.Policy.model c.new-policy.result) ≡ k = ap r.frames c.new-policy.ensures ∙ g.met.P.Policy.shape.first_frames c.args.setting k b.some in
+    let size : length c.new-keys_held.result.held.now ≡ c.frames-frames.result = ap length c.new-keys_held.ensures.held ∙ length-take-le _ _ e.held_for in
     record {
       runs = rw (frames, c.new-policy.ensures) (running_start g.met.P.Policy.shape b.some c.args.setting);
-      places = (omega (arith, frames, b.most), omega (arith, frames, e.held_for, c.frames.ensures.value, ap length c.new-frames.ensures.held));
-      empty = unfilled g.K.Key.code g.K.Key.spread _ _ c.new-frames.ensures.sound c.new-frames.ensures.map c.new-frames.ensures.filled;
+      places = (omega (arith, frames, b.most), omega (arith, frames, c.frames-frames.ensures.value, size));
+      empty = unfilled g.K.Key.code g.K.Key.spread _ _ c.new-keys_held.ensures.sound c.new-keys_held.ensures.map c.new-keys_held.ensures.filled;
       few = (e.few, omega (arith, places, e.slots_for));
     }
 
@@ -51,7 +52,7 @@ returns g c =
     let xs = map g.K.Key.code c.args.keys.now in
     record {
       answer = ap Ok (c.count_fetches.ensures ∙ ap (λ s. fetches r (idle s) xs) c.new-policy.ensures) ∙
-          sym (replayed_accepted r c.args.setting _ xs _ _ (c.in_ok-check_lists.ensures ∙ listed g.K.Key.code c.args.keys.now _ _ _ _ c.frames.ensures.value));
+          sym (replayed_accepted r c.args.setting _ xs _ _ (c.in_ok-check_lists.ensures ∙ listed g.K.Key.code c.args.keys.now _ _ _ _ c.frames-frames.ensures.value));
       slots = λ e. absurd (true≢false e);
       held = λ e. absurd (true≢false e);
     }

@@ -62,8 +62,7 @@ returns-in_err-check_plan g c =
       bounded = IfOk-from_err _ _ c.from_residual.ensures.0;
       competitive = competitive g.P.Policy.rules g.met.P.Policy.conservative;
       refused = λ _. record { slots = refl; next = refl; held = refl };
-      long = refl;
-      same = record { slots = refl; next = refl; held = refl; serving = refl };
+      same = record { long = refl; slots = refl; next = refl; held = refl; serving = refl };
     }
 
 pub returns-in_err-plan : goal.returns-in_err-plan
@@ -100,7 +99,7 @@ returns-in_err-fetches g c =
     let p = passed_by code keys k h _ lent c.max.ensures c.in_ok-check_plan.ensures in
     let geometry = geometry_frames k _ _ p.frames.0 p.frames.1 c.new.ensures c.in_ok-geometry.was in
     let replayed' = c.replay.ensures.answer ∙
-    replay_by g.P.Policy.rules c.args.setting touches k h _ _ _ lent p geometry (ap (λ (p : Places). p.slots) c.plan_touches.ensures.long) (ap (λ (p : Places). p.held) c.plan_touches.ensures.long) in
+    replay_by g.P.Policy.rules c.args.setting touches k h _ _ _ lent p geometry (ap (λ (p : Places). p.slots) c.plan_touches.ensures.same.long) (ap (λ (p : Places). p.held) c.plan_touches.ensures.same.long) in
     absurd (never _ (fetches g.P.Policy.rules (start g.P.Policy.rules c.args.setting k) touches) (sym c.in_err-fetches.was ∙ replayed'))
 
 pub returns : goal.returns
@@ -111,13 +110,13 @@ returns g c =
     let touches = map code keys in
     let k = c.args.frames in
     let h = c.args.smaller in
-    let long = c.plan_touches.ensures.long in
     let same = c.plan_touches.ensures.same in
+    let long = same.long in
     let p = passed_by code keys k h _ lent c.max.ensures c.in_ok-check_plan.ensures in
     let planned' = c.plan_touches.ensures.answer ∙ planned_accepted touches k h lent (plan_passes (length touches) k h lent p) in
     let geometry = geometry_frames k _ _ p.frames.0 p.frames.1 c.new.ensures c.in_ok-geometry.was in
     let replayed' = c.replay.ensures.answer ∙
-    replay_by g.P.Policy.rules c.args.setting touches k h _ _ _ lent p geometry (ap (λ (p : Places). p.slots) c.plan_touches.ensures.long) (ap (λ (p : Places). p.held) c.plan_touches.ensures.long) in
+    replay_by g.P.Policy.rules c.args.setting touches k h _ _ _ lent p geometry (ap (λ (p : Places). p.slots) c.plan_touches.ensures.same.long) (ap (λ (p : Places). p.held) c.plan_touches.ensures.same.long) in
     let plan = same_ok _ _ (sym c.in_ok-plan.was ∙ planned') in
     let count = same_ok _ _ (sym c.in_ok-fetches.was ∙ replayed') in
     let judged = c.in_ok-check_plan.ensures ∙ judged_by code keys k h _ lent c.max.ensures in
@@ -129,7 +128,12 @@ returns g c =
           (IfOk-at_ok _ c.in_ok-plan.was c.plan_touches.ensures.optimal);
       competitive = competitive g.P.Policy.rules g.met.P.Policy.conservative;
       refused = λ e. absurd (true≢false e);
-      same = record { slots = same.slots; next = same.next; held = same.held; serving = same.serving };
-      long = same_places _ _ _ _ _ _ _ _ (omega (arith, c.replay.auto.slots, ap (λ (p : Places). p.slots) long)) (ap (λ (p : Places). p.next) long)
-          (omega (arith, c.replay.auto.held, ap (λ (p : Places). p.held) long)) (ap (λ (p : Places). p.serving) long);
+      same = record {
+        long = same_places _ _ _ _ _ _ _ _ (omega (arith, c.replay.auto.slots, ap (λ (p : Places). p.slots) long)) (ap (λ (p : Places). p.next) long)
+            (omega (arith, c.replay.auto.held, ap (λ (p : Places). p.held) long)) (ap (λ (p : Places). p.serving) long);
+        slots = same.slots;
+        next = same.next;
+        held = same.held;
+        serving = same.serving;
+      };
     }

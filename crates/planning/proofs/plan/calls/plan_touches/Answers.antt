@@ -36,8 +36,7 @@ returns-in_err-check_plan g c =
       optimal = IfOk-from_err _ _ c.from_residual.ensures.0;
       schedules = served;
       refused = λ _. record { slots = refl; next = refl; held = refl };
-      long = refl;
-      same = record { slots = refl; next = refl; held = refl; serving = refl };
+      same = record { long = refl; slots = refl; next = refl; held = refl; serving = refl };
     }
 
 pub run_min-fetches-requires : goal.run_min-fetches-requires
@@ -45,8 +44,8 @@ run_min-fetches-requires g c =
     let p = plan_passed (length c.args.keys.now) c.args.frames c.args.smaller c.args.smaller (places c.args.lists.now) c.in_ok-check_plan.ensures in
     record {
       frames = (p.smaller.0, (omega (arith, p.smaller, p.frames), p.held_for));
-      few = (p.few, (omega (arith, p.slots_for, c.find_next.auto.slots), (omega (arith, p.next_for, c.find_next.auto.next), p.serving_for)));
-      next = c.find_next.ensures;
+      few = (p.few, (omega (arith, p.slots_for, c.next_touches.auto.slots), (omega (arith, p.next_for, c.next_touches.auto.next), p.serving_for)));
+      next = c.next_touches.ensures;
     }
 
 pub overflow_cast-ceiling : goal.overflow_cast-ceiling
@@ -75,6 +74,11 @@ returns g c =
       optimal = subst (λ (w : List ℕ). Optimal h touches w c.run_min-fetches.result) (sym front) (subst (Optimal h touches serves) (sym d) (min_optimal h p.smaller.0 touches));
       schedules = served;
       refused = λ e. absurd (true≢false e);
-      same = record { slots = refl; next = refl; held = refl; serving = refl };
-      long = same_places _ _ _ _ _ _ _ _ (omega (arith, c.find_next.auto.slots, c.run_min-fetches.auto.slots)) c.find_next.auto.next c.run_min-fetches.auto.held c.run_min-fetches.auto.serving;
+      same = record {
+        long = same_places _ _ _ _ _ _ _ _ (omega (arith, c.next_touches.auto.slots, c.run_min-fetches.auto.slots)) c.next_touches.auto.next c.run_min-fetches.auto.held c.run_min-fetches.auto.serving;
+        slots = refl;
+        next = refl;
+        held = refl;
+        serving = refl;
+      };
     }

@@ -1,7 +1,9 @@
-use Rattle.std.proofs.Common.{◌≡◌, length, ap, arith}
+use Rattle.std.proofs.Common.{◌≡◌, [], ◌++◌, map, length, drop, ap, ◌∙◌, arith}
+use Rattle.std.proofs.lemmas.List.{length-take-le}
 use Rattle.index.specs.Maps.{Map}
 use Rattle.index.specs.Slots.{map_of}
 use Rattle.planning.proofs.Holds.{unfilled}
+use Rattle.planning.specs.Minimum.{min_serves, min_fetches}
 use Rattle.planning.proofs.plan.calls.run_min.Goals as goal
 
 pub serve_touches-requires : goal.serve_touches-requires
@@ -9,8 +11,17 @@ serve_touches-requires g c =
     let made = c.new-keys_held.ensures in
     let places : (map_of g.K.Key.code c.new-keys_held.result.index).places ≡ length c.args.slots.now = ap (λ (n : Map). n.places) made.map in
     record {
-      size = (c.requires.frames.0, (c.requires.frames.1.0, omega (arith, c.requires.frames.1.1, ap length made.held)));
+      size = let wide = ap length made.held ∙ length-take-le c.args.frames c.args.held.now c.requires.frames.1.1 in (omega (arith, wide, c.requires.frames), omega (arith, wide, c.requires.frames));
       empty = unfilled g.K.Key.code g.K.Key.spread _ _ made.sound made.map made.filled;
       few = (c.requires.few.0, (omega (arith, places, c.requires.few.1.0), c.requires.few.1.1));
       next = c.requires.next;
+    }
+
+pub returns : goal.returns
+returns g c =
+    let xs = map g.K.Key.code c.args.keys.now in
+    let size = ap length c.new-keys_held.ensures.held ∙ length-take-le c.args.frames c.args.held.now c.requires.frames.1.1 in
+    record {
+      answer = c.serve_touches.ensures.answer ∙ ap (λ n. min_fetches n [] xs) size;
+      serving = c.serve_touches.ensures.serving ∙ ap (λ n. min_serves n [] xs ++ drop (length c.args.keys.now) c.args.serving.now) size;
     }
