@@ -9,9 +9,10 @@ use Rattle.trace.specs.Touches.{judged, judged_lines, in_replay, placed, counted
 use Rattle.base.specs.Geometries.{built}
 use Rattle.base.specs.declared.geometry.Geometry.{Geometry}
 use Rattle.base.specs.declared.refusal.Refusal.{Refusal}
-use Rattle.planning.specs.Lists.{AsLong, SameLists}
+use Rattle.planning.specs.Lists.{SameLists}
 use Rattle.planning.specs.Plan.{Places}
 use Rattle.planning.specs.declared.lists.Lists.{Lists}
+use Rattle.planning.proofs.Judged.{never, same_ok}
 use Rattle.planning.proofs.Plans.{geometry_accepted}
 use Rattle.sheet.specs.Rows.{frame_counts, Roomy}
 
@@ -29,9 +30,9 @@ pub geometry_ok : (k : ℕ) (r : Result Geometry Refusal) → 1 ≤ k → k ≤ 
 geometry_ok k (Ok g) some most b = refl
 geometry_ok k (Err e) some most b = absurd (geometry_accepted k (Err e) e some most b refl)
 
--- lists that are as long as roomy ones are roomy
-pub roomy_long : {K : Type 0} (n : ℕ) (l l' : Lists K) → Roomy n l → AsLong l l' → Roomy n l'
-roomy_long n l l' q e = record {
+-- lists stay roomy as long as they are the same
+pub roomy_long : {K : Type 0} (n : ℕ) (l l' : Lists K) → Roomy n l → SameLists l l' → Roomy n l'
+roomy_long n l l' q s = let e = s.long in record {
   few = q.few;
   slots = omega (arith, q.slots, ap (λ (p : Places). p.slots) e);
   next = omega (arith, q.next, ap (λ (p : Places). p.next) e);
@@ -40,39 +41,26 @@ roomy_long n l l' q e = record {
 }
 
 pub same_lists : {K : Type 0} (a b c : Lists K) → SameLists a b → SameLists b c → SameLists a c
-same_lists a b c p q = record { slots = q.slots ∙ p.slots; next = q.next ∙ p.next; held = q.held ∙ p.held; serving = q.serving ∙ p.serving }
-
-pub no_fault : {A : Type 0} (e : ReplayFault) (a : A) → ◌≡◌ {A = Result A ReplayFault} (Err e) (Ok a) → ⊥
-no_fault e a h = let z : ◌≡◌ {A = ℕ} 0 1 = cc in omega arith
-
-pub same_touches : {A : Type 0} (a b : A) → ◌≡◌ {A = Result A ReplayFault} (Ok a) (Ok b) → a ≡ b
-same_touches a b h = cc
-
-same_fault : (a b : ReplayFault) → ◌≡◌ {A = Result ℕ ReplayFault} (Err a) (Err b) → a ≡ b
-same_fault a b h = cc
+same_lists a b c p q = record { long = q.long ∙ p.long; slots = q.slots ∙ p.slots; next = q.next ∙ p.next; held = q.held ∙ p.held; serving = q.serving ∙ p.serving }
 
 -- touches that fit so many places fit more
 placed_more : (p q : ℕ) (j : Result (List ℕ) LineFault) (ts : List ℕ) → p ≤ q → and_then (in_replay j) (placed p) ≡ Ok ts → (and_then (in_replay j) (placed q) ≡ Ok ts) × (length ts ≤ p)
-placed_more p q (Err f) ts l e = absurd (no_fault _ _ e)
+placed_more p q (Err f) ts l e = absurd (never _ _ e)
 placed_more p q (Ok us) ts l e = elim (cases_Bool (leb (length us) p)) [
   | inl a ↦
-      let s : us ≡ ts = same_touches _ _ (rw a at e) in
+      let s : us ≡ ts = same_ok _ _ (rw a at e) in
       let fits = leb-true (length us) p a in
       (rw (le-leb (length us) q (omega arith)) (ap Ok s), rw (sym s) fits)
-  | inr a ↦ absurd (no_fault _ _ (rw a at e))
+  | inr a ↦ absurd (never _ _ (rw a at e))
 ]
 
 pub judged_more : (text : List ℕ) (p q : ℕ) (ts : List ℕ) → p ≤ q → judged text p ≡ Ok ts → (judged text q ≡ Ok ts) × (length ts ≤ p)
 judged_more text p q ts l e = elim (cases_Bool (leb (length text) 32768)) [
   | inl a ↦ rw a (placed_more p q (judged_lines 1 0 (lines text)) ts l (rw a at e))
-  | inr a ↦ absurd (no_fault _ _ (rw a at e))
+  | inr a ↦ absurd (never _ _ (rw a at e))
 ]
 
 -- a count is that of some touches
 pub counted_some : (r : Result (List ℕ) ReplayFault) (n : ℕ) → Ok n ≡ counted r → (ts : List ℕ) × (r ≡ Ok ts) × (n ≡ length ts)
-counted_some (Ok ts) n e = (ts, refl, same_touches _ _ e)
-counted_some (Err f) n e = absurd (no_fault _ _ (sym e))
-
-pub counted_fault : (r : Result (List ℕ) ReplayFault) (f : ReplayFault) → Err f ≡ counted r → r ≡ Err f
-counted_fault (Ok ts) f e = absurd (no_fault _ _ e)
-counted_fault (Err g) f e = let h : f ≡ g = same_fault _ _ e in ap Err (sym h)
+counted_some (Ok ts) n e = (ts, refl, same_ok _ _ e)
+counted_some (Err f) n e = absurd (never _ _ (sym e))

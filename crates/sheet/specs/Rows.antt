@@ -7,7 +7,7 @@ use Rattle.policy.specs.Fifo.{fifo_rules}
 use Rattle.policy.specs.Clock.{clock_rules}
 use Rattle.planning.specs.Minimum.{min_fetches}
 use Rattle.planning.specs.Lists.{places}
-use Rattle.planning.specs.Plan.{Places}
+use Rattle.planning.specs.Plan.{Places, room_in}
 use Rattle.planning.specs.declared.lists.Lists.{Lists}
 use Rattle.trace.specs.declared.fault.ReplayFault.{ReplayFault}
 use Rattle.trace.specs.declared.fault.ReplayFault.TheVariants as replay_fault
@@ -54,7 +54,7 @@ pub record Roomy {K : Type 0} (touches : ℕ) (lists : Lists K) : Type 0 where
 
 -- how many touches they have places for
 abbrev pub room : Lent → ℕ
-room l = min (min (min l.keys l.lists.slots) l.lists.next) l.lists.serving
+room l = min l.keys (room_in l.lists)
 
 -- the touches of a text that the lists have places for; the held-key list has a place for each of 64 frames
 abbrev pub touches_for : List ℕ → Lent → Result (List ℕ) ReplayFault

@@ -4,5 +4,5 @@
 mod row;
 mod sheet;
 
-pub use row::Row;
+pub use row::{HEADER, Row};
 pub use sheet::{FRAME_COUNTS, sheet_of_trace};

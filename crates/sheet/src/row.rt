@@ -8,6 +8,9 @@ pub struct Row {
     pub min: u64,
 }
 
+// The names of a row's numbers, in the order in which they are printed.
+pub const HEADER: &str = "frames,LRU,FIFO,CLOCK,MIN";
+
 mod calls;
 mod shown;
 

@@ -2,11 +2,11 @@
 ghost use Rattle.std.specs.Prelude.{◌≡◌, false, map, length, is_ok};
 ghost use Rattle.base.specs.Keys.{volume_code};
 ghost use Rattle.trace.specs.Touches.{Written};
-ghost use Rattle.planning.specs.Lists.{Unchanged, AsLong, SameLists};
+ghost use Rattle.planning.specs.Lists.{Unchanged, SameLists};
 ghost use Rattle.sheet.specs.Rows.{row_of, frame_counts, Roomy, lent, touches_for, sheet_of};
 
 use crate::row::{Row, row_of_keys};
-use base::{Geometry, Refusal, VolumeKey};
+use base::{Geometry, MAX_FRAMES, Refusal, VolumeKey};
 use planning::Lists;
 use trace::{ReplayFault, judge_trace, read_trace};
 
@@ -16,20 +16,18 @@ pub const FRAME_COUNTS: [u8; 6] = [1, 2, 3, 4, 8, 64];
 fn rows_of_keys(keys: &[VolumeKey], lists: &mut Lists<'_, VolumeKey>) -> [Row; 6]
     requires { Roomy (length keys.now) lists.old }
     ensures rows { result ≡ map (row_of (map volume_code keys.now)) frame_counts }
-    ensures long { AsLong lists.old lists.new }
     ensures same { SameLists lists.old lists.new }
 {
-    let none = Row {
-        frames: 0,
+    let mut rows = FRAME_COUNTS.map(|frames| Row {
+        frames,
         lru: 0,
         fifo: 0,
         clock: 0,
         min: 0,
-    };
-    let mut rows = [none; 6];
-    for (place, frames) in FRAME_COUNTS.iter().enumerate() {
-        let geometry = Geometry::new(*frames as usize, 0).unwrap();
-        rows[place] = row_of_keys(&geometry, keys, lists);
+    });
+    for row in &mut rows {
+        let geometry = Geometry::new(row.frames as usize, 0).unwrap();
+        *row = row_of_keys(&geometry, keys, lists);
     }
     rows
 }
@@ -43,17 +41,11 @@ pub fn sheet_of_trace(
 ) -> Result<[Row; 6], ReplayFault>
     ensures answer { result ≡ sheet_of text.now (lent keys.old lists.old) }
     ensures keys { Written (touches_for text.now (lent keys.old lists.old)) keys.old keys.new }
-    ensures long { AsLong lists.old lists.new }
     ensures same { SameLists lists.old lists.new }
     ensures refused { is_ok result ≡ false → Unchanged lists.old lists.new × (lists.new.serving.now ≡ lists.old.serving.now) }
 {
-    let room = keys
-        .len()
-        .min(lists.slots.len())
-        .min(lists.next.len())
-        .min(lists.serving.len());
-    judge_trace(text, room)?;
-    if lists.held.len() < 64 {
+    judge_trace(text, keys.len().min(lists.room()))?;
+    if lists.held.len() < MAX_FRAMES {
         return Err(ReplayFault::Refused(Refusal::TooFewPlaces));
     }
     let touches = read_trace(text, keys)?;

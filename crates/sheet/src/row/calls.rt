@@ -1,7 +1,7 @@
 // What a row counts.
 ghost use Rattle.std.specs.Prelude.{◌≡◌, map, length};
 ghost use Rattle.base.specs.Geometries.{frames_of};
-ghost use Rattle.planning.specs.Lists.{AsLong, SameLists};
+ghost use Rattle.planning.specs.Lists.{SameLists};
 ghost use Rattle.sheet.specs.Rows.{row_of, Roomy};
 
 use super::Row;
@@ -13,7 +13,6 @@ use policy::{Clock, Fifo, Lru};
 pub(crate) fn row_of_keys<K: Key>(geometry: &Geometry, keys: &[K], lists: &mut Lists<'_, K>) -> Row
     requires { Roomy (length keys.now) lists.old }
     ensures counts { result ≡ row_of (map K.Key.code keys.now) (frames_of geometry.now) }
-    ensures long { AsLong lists.old lists.new }
     ensures same { SameLists lists.old lists.new }
 {
     let frames = geometry.frames();

@@ -1,11 +1,29 @@
 use Rattle.std.proofs.Common.{◌≡◌, ℕ, ◌+◌, ◌<◌, ◌≤◌, List, [], ◌∷◌, ◌++◌, map, length, get_or, take, set, sym, ap, ◌∙◌, arith}
-use Rattle.std.proofs.lemmas.List.{length-set, take_more, take_more_set, take_all, get_or-map}
+use Rattle.std.proofs.Math.Seq.{map-set_same}
+use Rattle.std.proofs.lemmas.List.{length-map, take_more, take_more_set, take_all, get_or-map}
 use Rattle.base.specs.Keys.{volume_code}
 use Rattle.planning.proofs.Plans.{geometry_frames}
 use Rattle.sheet.specs.declared.row.Row.{Row}
 use Rattle.sheet.specs.Rows.{row_of, frame_counts}
 use Rattle.sheet.proofs.Sheets.{counts_within, geometry_ok, roomy_long, same_lists}
 use Rattle.sheet.proofs.sheet.rows_of_keys.Goals as goal
+
+abbrev frames_in : Row → ℕ
+frames_in r = r.frames
+
+six : (rows : List Row) → map frames_in rows ≡ frame_counts → length rows ≡ 6
+six rows e = sym (length-map rows frames_in) ∙ ap length e
+
+-- a row's number of frames, by its place
+frames_at : (rows : List Row) (i : ℕ) (d : Row) → map frames_in rows ≡ frame_counts → i < 6 → (get_or rows i d).frames ≡ get_or frame_counts i 0
+frames_at rows i d e l = sym (get_or-map frames_in rows i d 0 (omega (arith, six rows e, l))) ∙ ap (λ (ks : List ℕ). get_or ks i 0) e
+
+-- so it makes a geometry
+within_at : (rows : List Row) (i : ℕ) (d : Row) → map frames_in rows ≡ frame_counts → i < 6 → (1 ≤ (get_or rows i d).frames) × ((get_or rows i d).frames ≤ 64)
+within_at rows i d e l =
+    let f = frames_at rows i d e l in
+    let w = counts_within i l in
+    (omega (arith, f, w.0), omega (arith, f, w.1))
 
 -- one row more
 rows_more : (touches : List ℕ) (rows : List Row) (i : ℕ) (row : Row) → i < 6 → length rows ≡ 6 → row ≡ row_of touches (get_or frame_counts i 0) →
@@ -17,31 +35,35 @@ rows_more touches rows i row l long e q =
 
 pub unwrap-geometry-requires : goal.unwrap-geometry-requires
 unwrap-geometry-requires c =
-    let w = counts_within c.loop-place.place c.loop-place-test.true in
-    geometry_ok (get_or frame_counts c.loop-place.place 0) c.new.result w.0 w.1 c.new.ensures
+    let w = within_at c.loop-row.row-items c.loop-row.row-index _ c.loop-row.invariant.1.0 c.loop-row-test.true in
+    geometry_ok _ c.new.result w.0 w.1 c.new.ensures
 
 pub row_of_keys-requires : goal.row_of_keys-requires
-row_of_keys-requires c = c.loop-place.invariant.0
+row_of_keys-requires c = c.loop-row.invariant.0
 
-pub loop-place-preserved : goal.loop-place-preserved
-loop-place-preserved c =
-    let i = c.loop-place.place in
-    let rows = c.loop-place.rows in
-    let q = c.loop-place.invariant in
-    let w = counts_within i c.loop-place-test.true in
+pub loop-row-preserved : goal.loop-row-preserved
+loop-row-preserved c =
+    let i = c.loop-row.row-index in
+    let rows = c.loop-row.row-items in
+    let q = c.loop-row.invariant in
+    let w = within_at rows i _ q.1.0 c.loop-row-test.true in
     let touches = map volume_code c.args.keys.now in
-    let frames = geometry_frames (get_or frame_counts i 0) _ _ w.0 w.1 c.new.ensures c.unwrap-geometry.ensures in
-    let row = c.row_of_keys.ensures.counts ∙ ap (row_of touches) frames in (
-      roomy_long _ _ _ q.0 c.row_of_keys.ensures.long,
-      (length-set rows i c.row_of_keys.result ∙ q.1.0, (rows_more touches rows i c.row_of_keys.result c.loop-place-test.true q.1.0 row q.1.1.0, (c.row_of_keys.ensures.long ∙ q.1.1.1.0, same_lists _ _ _ q.1.1.1.1 c.row_of_keys.ensures.same))),
+    let f = frames_at rows i _ q.1.0 c.loop-row-test.true in
+    let made = geometry_frames _ _ _ w.0 w.1 c.new.ensures c.unwrap-geometry.ensures in
+    let row = c.row_of_keys.ensures.counts ∙ ap (row_of touches) (made ∙ f) in (
+      roomy_long _ _ _ q.0 c.row_of_keys.ensures.same,
+      (
+        map-set_same frames_in rows i c.row_of_keys.result _ (ap frames_in row ∙ sym f) ∙ q.1.0,
+        (
+          rows_more touches rows i c.row_of_keys.result c.loop-row-test.true (six rows q.1.0) row q.1.1.0,
+          same_lists _ _ _ q.1.1.1 c.row_of_keys.ensures.same,
+        ),
+      ),
     )
 
-pub returns : goal.returns
-returns c =
+pub returns-clause-rows : goal.returns-clause-rows
+returns-clause-rows c =
     let ms : List Row = map (row_of (map volume_code c.args.keys.now)) frame_counts in
-    let i = c.loop-place.place in
-    record {
-      rows = sym (take_all i c.loop-place.rows (omega (arith, c.loop-place.invariant.1.0, c.loop-place-test.false))) ∙ c.loop-place.invariant.1.1.0 ∙ take_all i ms c.loop-place-test.false;
-      long = c.loop-place.invariant.1.1.1.0;
-      same = c.loop-place.invariant.1.1.1.1;
-    }
+    let i = c.loop-row.row-index in
+    let rows = c.loop-row.row-items in
+    sym (take_all i rows (omega (arith, six rows c.loop-row.invariant.1.0, c.loop-row-test.false))) ∙ c.loop-row.invariant.1.1.0 ∙ take_all i ms c.loop-row-test.false

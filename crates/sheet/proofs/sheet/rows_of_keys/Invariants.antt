@@ -1,10 +1,13 @@
+-- The rows so far are counted, and each row has its number of frames from the beginning.
 use Rattle.std.proofs.Common.{◌≡◌, map, length, take}
 use Rattle.base.specs.Keys.{volume_code}
-use Rattle.planning.specs.Lists.{AsLong, SameLists}
+use Rattle.planning.specs.Lists.{SameLists}
+use Rattle.sheet.specs.declared.row.Row.{Row}
 use Rattle.sheet.specs.Rows.{row_of, frame_counts, Roomy}
 use Rattle.sheet.proofs.sheet.rows_of_keys.Given as goal
 
-abbrev pub invariant-loop-place : goal.invariant-loop-place
-invariant-loop-place l =
-    Roomy (length l.keys) l.lists × ((length l.rows ≡ 6) × ((take l.place l.rows ≡ take l.place (map (row_of (map volume_code l.keys)) frame_counts)) ×
-    (AsLong l.initial.lists l.lists × SameLists l.initial.lists l.lists)))
+abbrev pub invariant-loop-row : goal.invariant-loop-row
+invariant-loop-row l =
+    Roomy (length l.keys) l.lists × ((map (λ (r : Row). r.frames) l.row-items ≡ frame_counts) ×
+    ((take l.row-index l.row-items ≡ take l.row-index (map (row_of (map volume_code l.keys)) frame_counts)) ×
+    SameLists l.initial.lists l.lists))

@@ -4,7 +4,8 @@ use Rattle.base.specs.Keys.{volume_code}
 use Rattle.trace.specs.declared.fault.ReplayFault.{ReplayFault}
 use Rattle.trace.specs.Touches.{judged, counted, Written}
 use Rattle.sheet.specs.Rows.{Lent, lent, room, row_of, frame_counts, touches_for, sheet_of}
-use Rattle.sheet.proofs.Sheets.{judged_more, counted_some, same_touches}
+use Rattle.planning.proofs.Judged.{same_ok}
+use Rattle.sheet.proofs.Sheets.{judged_more, counted_some}
 use Rattle.sheet.proofs.sheet.sheet_of_trace.Goals as goal
 
 -- the touches that the lists have places for
@@ -18,13 +19,13 @@ pub returns : goal.returns
 returns c =
     let text = c.args.text.now in
     let l = lent c.args.keys.now c.args.lists.now in
-    let er = c.min-room.ensures ∙ ap (λ n. min n l.lists.serving) (c.min-2.ensures ∙ ap (λ n. min n l.lists.next) c.min.ensures) in
+    let er = c.min.ensures ∙ ap (min l.keys) c.room.ensures in
     let q = counted_some (judged text (room l)) _ (c.in_ok-judge_trace.ensures ∙ ap (λ n. counted (judged text n)) er) in
     let ts = q.0 in
     let more = judged_more text (room l) l.keys ts (omega arith) q.1 in
-    let tf = fits text l ts q.1 c.if-lists-lt64.false in
+    let tf = fits text l ts q.1 c.if-lists-lt-MAX_FRAMES.false in
     let written = c.in_ok-touches.ensures.keys in
-    let count = same_touches _ _ (c.in_ok-touches.ensures.answer ∙ ap counted more.0) in
+    let count = same_ok _ _ (c.in_ok-touches.ensures.answer ∙ ap counted more.0) in
     let filled = subst (λ (r : Result (List ℕ) ReplayFault). Written r c.args.keys.now c.read_trace.new.keys) more.0 written in
     let part : map volume_code (take (c.in_ok-touches.touches - 0) c.read_trace.new.keys) ≡ ts =
     ap (λ n. map volume_code (take n c.read_trace.new.keys)) (let z : c.in_ok-touches.touches - 0 ≡ length ts = omega (arith, count) in z) ∙ filled.first in
@@ -32,7 +33,6 @@ returns c =
     record {
       answer = ap Ok rows ∙ sym (sheet_fits text l ts tf);
       keys = subst (λ (r : Result (List ℕ) ReplayFault). Written r c.args.keys.now c.read_trace.new.keys) (sym tf) filled;
-      long = c.rows_of_keys.ensures.long;
       same = c.rows_of_keys.ensures.same;
       refused = λ e. absurd (true≢false e);
     }
