@@ -1,40 +1,11 @@
 -- Where a key stands in a list.
-use Rattle.std.proofs.Common.{◌≡◌, ℕ, zero, suc, ◌+◌, ◌-◌, ◌<◌, ◌≤◌, true, false, ◌||◌, eqb, ltb, nat_eq, List, [], ◌∷◌, map, length, get_or, take, drop, Some, is_some, sym, refl, ◌∙◌, inl, inr, zero-add, arith}
-use Rattle.std.proofs.lemmas.Bool.{cases_Bool, cases_eq, cases_lt, eqb-true, eq-eqb, ne_eqb, lt-ltb, le-ltb, or_parts, or_left, true≢false}
+use Rattle.std.proofs.Common.{◌≡◌, ℕ, zero, suc, ◌+◌, ◌-◌, ◌<◌, ◌≤◌, true, false, ◌||◌, eqb, ltb, nat_eq, List, [], ◌∷◌, map, length, take, drop, is_some, sym, refl, ◌∙◌, inl, inr, zero-add, arith}
+use Rattle.std.proofs.lemmas.Bool.{cases_Bool, cases_eq, cases_lt, eq-eqb, ne_eqb, lt-ltb, le-ltb, or_parts, true≢false}
 use Rattle.std.proofs.lemmas.List.{length-map, length-drop, drop-set-add, drop-append-le, take-set-le, take-append-le}
 use Rattle.std.specs.List.{position, position_or_len}
 use Rattle.policy.specs.Machine.{put}
 use Rattle.base.specs.Lists.{member, place_in}
 use Rattle.cache.specs.Places.{found}
-
--- the key at a place stands in the list
-pub member_at : (xs : List ℕ) (i : ℕ) → i < length xs → member (get_or xs i 0) xs ≡ true
-member_at [] i h = absurd (omega arith)
-member_at (y ∷ ys) zero h = or_left (eqb y y) _ (eq-eqb y y refl)
-member_at (y ∷ ys) (suc i) h =
-    elim (cases_Bool (eqb (get_or ys i 0) y)) [ inl e ↦ rw e | inr e ↦ rw e (member_at ys i (omega arith)) ]
-
--- a key that stands in a list stands at its place
-pub place_below : (x : ℕ) (xs : List ℕ) → member x xs ≡ true → place_in x xs < length xs
-place_below x [] h = absurd (true≢false (sym h))
-place_below x (y ∷ ys) h =
-    elim (cases_Bool (eqb x y)) [ inl e ↦ rw e (omega arith) | inr e ↦ rw e (let k : place_in x ys < length ys = place_below x ys (rw e at h) in omega arith) ]
-
-pub place_index : (x : ℕ) (xs : List ℕ) → member x xs ≡ true → get_or xs (place_in x xs) 0 ≡ x
-place_index x [] h = absurd (true≢false (sym h))
-place_index x (y ∷ ys) h =
-    elim (cases_Bool (eqb x y)) [ inl e ↦ rw e (sym (eqb-true x y e)) | inr e ↦ rw e (place_index x ys (rw e at h)) ]
-
--- a key that is not held is at no place
-pub never_at : (x : ℕ) (xs : List ℕ) (i : ℕ) → member x xs ≡ false → i < length xs → get_or xs i 0 ≡ x → ⊥
-never_at x xs i none h at = true≢false (sym (rw at at (member_at xs i h)) ∙ none)
-
--- a key that is found
-pub found_some : (keys : List ℕ) (x f : ℕ) → Some f ≡ found keys x → (member x keys ≡ true) × (f ≡ place_in x keys)
-found_some keys x f h = elim (cases_Bool (member x keys)) [
-  | inl e ↦ (e, let q = rw e at h in cc)
-  | inr e ↦ let q = rw e at h in absurd (let z : ◌≡◌ {A = ℕ} 0 1 = cc in omega arith)
-]
 
 -- a list cut in two: in which part a key stands, and where
 pub member_cut : (x n : ℕ) (xs : List ℕ) → member x xs ≡ (member x (take n xs) || member x (drop n xs))

@@ -6,12 +6,12 @@ use Rattle.std.proofs.lemmas.List.{length-map, length-append, get_or-map, get_or
 use Rattle.std.proofs.Math.Seq.{map-set_same}
 use Rattle.base.specs.Lists.{member, place_in}
 use Rattle.policy.specs.Machine.{put}
+use Rattle.policy.specs.Members.{member_index, place_within, index_place}
 use Rattle.disk.specs.Meaning.{replaced}
 use Rattle.cache.specs.declared.store.Place.{Place}
 use Rattle.cache.specs.declared.store.Store.{Store}
 use Rattle.cache.specs.Places.{used, place_at, clean_place, held, changed, stored, cleaned, installed}
 use Rattle.cache.specs.View.{Holding, shown}
-use Rattle.cache.proofs.Keys.{place_below, place_index, never_at, member_at}
 
 -- no place of a store holds a sector
 abbrev pub Absent : Store → ℕ → Type 0
@@ -36,14 +36,14 @@ module _ (s : Store) where
   -- a sector that is a member of the list is held at its place
   pub at_place : (x : ℕ) → member x (held s) ≡ true → HeldAt s x (place_in x (held s))
   at_place x h =
-      let b : place_in x (held s) < used s = rw held_length at (place_below x (held s) h) in
-      (b, sym (held_at (place_in x (held s)) b) ∙ place_index x (held s) h)
-
-  pub absent_from : (x : ℕ) → member x (held s) ≡ false → Absent s x
-  absent_from x h i b e = never_at x (held s) i h (rw held_length b) (held_at i b ∙ e)
+      let b : place_in x (held s) < used s = rw held_length at (place_within x (held s) h) in
+      (b, sym (held_at (place_in x (held s)) b) ∙ index_place x (held s) h)
 
   pub member_from : (x i : ℕ) → HeldAt s x i → member x (held s) ≡ true
-  member_from x i h = rw (held_at i h.0 ∙ h.1) at (member_at (held s) i (rw held_length h.0))
+  member_from x i h = rw (held_at i h.0 ∙ h.1) at (member_index (held s) i (rw held_length h.0))
+
+  pub absent_from : (x : ℕ) → member x (held s) ≡ false → Absent s x
+  absent_from x h i b e = true≢false (sym (member_from x i (b, e)) ∙ h)
 
   pub cases_held : (x : ℕ) → ((i : ℕ) × HeldAt s x i) ⊎ Absent s x
   cases_held x = elim (cases_Bool (member x (held s)))

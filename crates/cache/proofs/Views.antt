@@ -1,6 +1,7 @@
 -- Views: each step keeps them sound, and what it does to what they show.
 use Rattle.std.proofs.Common.{◌≡◌, ℕ, ◌+◌, ◌-◌, ◌<◌, ◌≤◌, true, false, cond, not, ◌&&◌, ◌||◌, eqb, ltb, List, length, is_ok, Some, Ok, Result, sym, refl, ap, ◌∙◌, subst, inl, inr, arith}
 use Rattle.std.proofs.lemmas.Bool.{cases_Bool, cases_lt, lt-ltb, le-ltb, ltb-true, ltb-false, or_parts, true≢false}
+use Rattle.std.proofs.lemmas.Option.{cond_some}
 use Rattle.base.specs.Lists.{member, place_in}
 use Rattle.base.specs.declared.refusal.Refusal.{Refusal}
 use Rattle.policy.specs.Machine.{Rules, put, touch, fetch}
@@ -11,7 +12,7 @@ use Rattle.cache.specs.Places.{used as in_use, place_at, held, pins, framed, fou
 use Rattle.cache.specs.View.{View, Sound, seen, machine}
 use Rattle.cache.specs.Steps.{used_frame, used_view, placed_view, looked_view, vacated_view, fetched_view, touched_view, next_place, place_of, with_place}
 use Rattle.cache.specs.Requests.{fetched_below}
-use Rattle.cache.proofs.Keys.{found_some, member_cut, place_front, place_back, put_back, put_front}
+use Rattle.cache.proofs.Keys.{member_cut, place_front, place_back, put_back, put_front}
 use Rattle.cache.proofs.Stores.{Absent, HeldAt, held_length, absent_from, at_place, cleaned_used, cleaned_held, cleaned_at, cleaned_holds, cleaned_shows, replaced_other, installed_used, installed_holds, installed_shows, installed_held, used_f, sector_f}
 
 -- two disks of one shape that show the same
@@ -288,12 +289,12 @@ module _ {Setting State : Type 0} (r : Rules Setting State) (shape : Shape r) wh
     module _ (p : ℕ) (at : Some p ≡ found (held v.store) x) where
       pub hit_filled : v.store.pinned ≤ p → p - v.store.pinned < r.filled v.policy
       hit_filled low =
-          let q = found_some (held v.store) x p at in
-          rw q.1 (frame_filled q.0 (rw q.1 at low))
+          let q = cond_some _ _ _ (sym at) in
+          rw (← q.1) (frame_filled q.0 (rw (← q.1) at low))
 
       pub hit_answers : ◌≡◌ {A = Result ℕ Refusal} (Ok p) (with_place (answer v.below x 512) (place_of r v x))
       hit_answers =
-          let q = found_some (held v.store) x p at in
+          let q = cond_some _ _ _ (sym at) in
           let l = live_served v.below x 512 (held_served q.0) in
           rw (answer_live v.below x 512 refl l.inside l.live, q.0, q.1)
 

@@ -69,7 +69,8 @@ pub data Served (m : Meaning) : Meaning → Type 0 where
   reads : Served m (read_one m)
   reads_writes : (x : ℕ) (b : List ℕ) → Served m (written_one (read_one m) x b)
 
--- In a read or write turn the disk below serves at most one read and one write, and nothing at all unless F rises or stands at its largest value.
+-- In a read or write turn the disk below serves at most one read and one write, and nothing at all unless F rises or stands at its
+-- largest value.
 pub record Asks (start : Meaning) (past : List Event) (e : Event) : Type 0 where
   pub few : (is_read e.request || is_write e.request) ≡ true → Served (below_after start past) e.below
   pub idle : (is_read e.request || is_write e.request) ≡ true → e.fetched ≤ fetched_after 0 past → fetched_after 0 past < largest_tally →

@@ -34,15 +34,15 @@ found sectors x = cond (member x sectors) (Some (place_in x sectors)) None
 
 -- a store with one place in use changed
 abbrev pub changed : Store → ℕ → Place → Store
-changed s i p = record { pinned = s.pinned; places = with_item s.places i p }
+changed s i p = record s { places = with_item s.places i p }
 
 -- a place with the bytes of a buffer, dirty
 abbrev pub stored : Store → ℕ → List ℕ → Store
-stored s i b = changed s i (record { sector = (place_at s i).sector; dirty = true; block = b })
+stored s i b = changed s i (record (place_at s i) { dirty = true; block = b })
 
 -- a place marked as clean
 abbrev pub cleaned : Store → ℕ → Store
-cleaned s i = changed s i (clean_place (place_at s i).sector (place_at s i).block)
+cleaned s i = changed s i (record (place_at s i) { dirty = false })
 
 -- a place put over one in use, or behind the last
 abbrev pub put_place : List Place → ℕ → Place → List Place
@@ -50,7 +50,7 @@ put_place ps i p = cond (nat_lt i (length ps)) (slice_set ps i p) (ps ++ (p ∷ 
 
 -- a place, in use or the next, given to a sector with its bytes, clean
 abbrev pub installed : Store → ℕ → ℕ → List ℕ → Store
-installed s i x b = record { pinned = s.pinned; places = record { items = put_place s.places.items i (clean_place x b) } }
+installed s i x b = record s { places = record { items = put_place s.places.items i (clean_place x b) } }
 
 -- the next place given to a sector that is pinned there
 abbrev pub pinned_in : Store → ℕ → List ℕ → Store

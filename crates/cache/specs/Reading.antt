@@ -11,7 +11,14 @@ use Rattle.cache.specs.Promise.{Origin, Taken, Promise}
 
 module _ {D P Setting : Type 0} (d : disks.Ghosts D) (p : policies.Ghosts P Setting) where
   abbrev pub view : Cache D P → View p.State
-  view c = record { below = d.meaning c.below; policy = p.model c.policy; store = c.store; fetched = c.fetched; reads = c.tallies.reads; writes = c.tallies.writes }
+  view c = record {
+    below = d.meaning c.below;
+    policy = p.model c.policy;
+    store = c.store;
+    fetched = c.fetched;
+    reads = c.tallies.reads;
+    writes = c.tallies.writes;
+  }
 
   -- a cache that is sound, over a disk that is
   pub record Safe (c : Cache D P) : Type 0 where
@@ -21,7 +28,15 @@ module _ {D P Setting : Type 0} (d : disks.Ghosts D) (p : policies.Ghosts P Sett
   -- c' has taken one turn more than c: whatever turns c has taken, c' has taken those and this one
   abbrev pub Takes : Cache D P → Request → ℕ → List ℕ → List ℕ → Result (Unit {0}) Refusal → Cache D P → Type 0
   Takes c request x b b' answer c' = (o : Origin Setting) (es : List Event) → Taken p.rules o es (view c) →
-      Taken p.rules o (es ++ (record { request = request; sector = x; before = b; after = b'; answer = answer; below = (view c').below; fetched = c'.fetched } ∷ [])) (view c')
+      Taken p.rules o (es ++ (record {
+        request = request;
+        sector = x;
+        before = b;
+        after = b';
+        answer = answer;
+        below = (view c').below;
+        fetched = c'.fetched;
+      } ∷ [])) (view c')
 
   -- F, for every list of turns that the cache can have taken
   abbrev pub Promised : Cache D P → ℕ → Type 0

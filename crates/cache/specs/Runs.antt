@@ -25,14 +25,16 @@ pub record Report (t t' : Turn) (e : Event) : Type 0 where
 -- the events of a list of turns, in order
 pub data Reported : List Turn → List Turn → List Event → Type 0 where
   done : Reported [] [] []
-  more : {t t' : Turn} {e : Event} {ts ts' : List Turn} {es : List Event} → Report t t' e → Reported ts ts' es → Reported (t ∷ ts) (t' ∷ ts') (e ∷ es)
+  more : {t t' : Turn} {e : Event} {ts ts' : List Turn} {es : List Event} → Report t t' e → Reported ts ts' es →
+      Reported (t ∷ ts) (t' ∷ ts') (e ∷ es)
 
 module _ {D P Setting : Type 0} (d : disks.Ghosts D) (p : policies.Ghosts P Setting) where
   -- one turn taken by a cache c, which then is c': some event is the turn's, and c' has taken it behind whatever c had taken
   pub record TakesTurn (c : Cache D P) (t t' : Turn) (c' : Cache D P) : Type 0 where
     pub event : Event
     pub report : Report t t' event
-    pub takes : (o : Origin Setting) (es : List Event) → Taken p.rules o es (view d p c) → Taken p.rules o (es ++ (event ∷ [])) (view d p c')
+    pub takes : (o : Origin Setting) (es : List Event) → Taken p.rules o es (view d p c) →
+        Taken p.rules o (es ++ (event ∷ [])) (view d p c')
 
   -- A run: a cache that was set up as s, and has taken the turns ts, which then are ts', is c. It keeps the whole promise.
   pub record Ran (s : SetUpCache D P) (setting : Setting) (ts ts' : List Turn) (c : Cache D P) : Type 0 where

@@ -9,12 +9,12 @@ use Rattle.cache.specs.View.{View}
 
 -- a read served below
 abbrev pub looked_view : {State : Type 0} → View State → View State
-looked_view v = record { below = read_one v.below; policy = v.policy; store = v.store; fetched = v.fetched; reads = v.reads; writes = v.writes }
+looked_view v = record v { below = read_one v.below }
 
 -- a dirty place written below, and clean
 abbrev pub backed_view : {State : Type 0} → View State → ℕ → View State
 backed_view v p = cond (place_at v.store p).dirty
-    (record { below = written_one v.below (place_at v.store p).sector (place_at v.store p).block; policy = v.policy; store = cleaned v.store p; fetched = v.fetched; reads = v.reads; writes = v.writes })
+    (record v { below = written_one v.below (place_at v.store p).sector (place_at v.store p).block; store = cleaned v.store p })
     v
 
 -- a place in use so
@@ -24,7 +24,7 @@ vacated_view v p = cond (nat_lt p (used v.store)) (backed_view v p) v
 module _ {Setting State : Type 0} (r : Rules Setting State) where
   -- a use of a frame
   abbrev pub used_frame : View State → ℕ → View State
-  used_frame v f = record { below = v.below; policy = r.used v.policy f; store = v.store; fetched = v.fetched; reads = v.reads; writes = v.writes }
+  used_frame v f = record v { policy = r.used v.policy f }
 
   -- a hit: the frame of the place is used, and a pin's place is of no frame
   abbrev pub used_view : View State → ℕ → View State
@@ -36,7 +36,7 @@ module _ {Setting State : Type 0} (r : Rules Setting State) where
 
   -- the policy has placed, and a sector stands with its bytes in the place p
   abbrev pub placed_view : View State → ℕ → ℕ → List ℕ → View State
-  placed_view v p x b = record { below = v.below; policy = r.placed v.policy; store = installed v.store p x b; fetched = raised v.fetched; reads = v.reads; writes = v.writes }
+  placed_view v p x b = record v { policy = r.placed v.policy; store = installed v.store p x b; fetched = raised v.fetched }
 
   -- a fetch of a sector that is not held
   abbrev pub fetched_view : View State → ℕ → View State

@@ -1,8 +1,11 @@
 // Sectors in memory: the pinned ones first, then those of the frames.
 use arrayvec::ArrayVec;
-use disk::SECTOR_BYTES;
+use base::{MAX_FRAMES, MAX_PINS, SECTOR_BYTES};
 
 mod calls;
+
+// Room for every frame and every pinned sector.
+const MAX_PLACES: usize = MAX_FRAMES + MAX_PINS;
 
 // A sector that is held: its number, whether it is dirty, and its bytes.
 #[derive(Drop, Default)]
@@ -16,6 +19,5 @@ pub struct Place {
 pub struct Store {
     // how many of the places hold a pinned sector
     pub pinned: usize,
-    // room for 64 frames and 8 pins
-    pub places: ArrayVec<Place, 72>,
+    pub places: ArrayVec<Place, MAX_PLACES>,
 }

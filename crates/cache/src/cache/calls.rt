@@ -11,8 +11,8 @@ ghost use Rattle.cache.specs.Reading.{view, Safe, Takes, Promised};
 use super::Cache;
 use crate::slip::EndingSlip;
 use crate::store::Store;
-use base::Refusal;
-use disk::{Disk, SECTOR_BYTES, Tallies};
+use base::{Refusal, SECTOR_BYTES};
+use disk::{Disk, Tallies};
 use policy::Policy;
 
 impl<D: Disk, P: Policy> Cache<D, P> {

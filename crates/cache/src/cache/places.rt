@@ -6,8 +6,8 @@ ghost use Rattle.cache.specs.Steps.{backed_view, fetched_view, touched_view, use
 ghost use Rattle.cache.specs.Reading.{view, Safe};
 
 use super::Cache;
-use base::Refusal;
-use disk::{Disk, SECTOR_BYTES};
+use base::{Refusal, SECTOR_BYTES};
+use disk::Disk;
 use policy::Policy;
 
 impl<D: Disk, P: Policy> Cache<D, P> {

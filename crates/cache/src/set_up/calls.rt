@@ -9,8 +9,8 @@ use super::SetUpCache;
 use crate::cache::Cache;
 use crate::slip::EndingSlip;
 use crate::store::Store;
-use base::{Geometry, Refusal};
-use disk::{Disk, SECTOR_BYTES};
+use base::{Geometry, Refusal, SECTOR_BYTES};
+use disk::Disk;
 use policy::Policy;
 
 impl<D: Disk, P: Policy> SetUpCache<D, P> {

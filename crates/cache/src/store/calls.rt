@@ -4,7 +4,7 @@ ghost use Rattle.cache.specs.Places.{used, place_at, held, found, stored, instal
 
 use super::{Place, Store};
 use arrayvec::ArrayVec;
-use disk::SECTOR_BYTES;
+use base::SECTOR_BYTES;
 
 impl Store {
     pub fn new() -> Store
