@@ -1,7 +1,6 @@
 // The kinds of turns, by their names on the command line.
-use std::error::Error;
-use std::fmt;
 use std::str::FromStr;
+use thiserror::Error;
 
 #[derive(Clone, Copy)]
 pub enum Kind {
@@ -13,16 +12,9 @@ pub enum Kind {
     Dirty,
 }
 
-#[derive(Clone, Copy, Debug)]
+#[derive(Debug, Drop, Error)]
+#[error("the kind is hit, clean or dirty")]
 pub struct UnknownKind;
-
-impl fmt::Display for UnknownKind {
-    fn fmt<W: fmt::Write>(&self, f: &mut fmt::Formatter<W>) -> fmt::Result {
-        f.write_str("the kind is hit, clean or dirty")
-    }
-}
-
-impl Error for UnknownKind {}
 
 impl FromStr for Kind {
     type Err = UnknownKind;

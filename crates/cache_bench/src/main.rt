@@ -4,13 +4,13 @@
 
 mod kind;
 
-ghost use Rattle.std.specs.Prelude.{◌≡◌, ◌≤◌, length};
+ghost use Rattle.std.specs.Prelude.{◌≤◌};
 ghost use Rattle.cache.specs.Reading.{Safe};
 
 use anyhow::anyhow;
-use base::Geometry;
+use base::{Geometry, SECTOR_BYTES};
 use cache::{Cache, SetUpCache};
-use disk::{Disk, ImageDisk, SECTOR_BYTES};
+use disk::{Disk, ImageDisk};
 use kind::Kind;
 use policy::{Lru, Policy};
 use std::alloc::{AllocError, Global};
@@ -18,17 +18,18 @@ use std::env;
 
 const FRAMES: usize = 64;
 
-const IMAGE_BYTES: usize = 128 * SECTOR_BYTES;
+const SECTORS: u32 = 2 * FRAMES as u32;
+
+const IMAGE_BYTES: usize = SECTORS as usize * SECTOR_BYTES;
 
 // Reads sectors 0 to `sectors` - 1 in turn, over and over. Answers a sum of bytes that were read, so that no copy is left out as unused.
 fn read_turns<D: Disk, P: Policy>(
     cache: &mut Cache<D, P>,
     turns: u32,
     sectors: u32,
-    buffer: &mut [u8],
+    buffer: &mut [u8; SECTOR_BYTES],
 ) -> u8
     requires some { 1 ≤ sectors }
-    requires whole { length buffer.old ≡ 512 }
     requires safe { Safe D.Disk P.Policy cache.old }
     ensures { Safe D.Disk P.Policy cache.new }
 {
@@ -45,10 +46,9 @@ fn write_turns<D: Disk, P: Policy>(
     cache: &mut Cache<D, P>,
     turns: u32,
     sectors: u32,
-    buffer: &mut [u8],
+    buffer: &mut [u8; SECTOR_BYTES],
 ) -> u8
     requires some { 1 ≤ sectors }
-    requires whole { length buffer.old ≡ 512 }
     requires safe { Safe D.Disk P.Policy cache.old }
     ensures { Safe D.Disk P.Policy cache.new }
 {
@@ -69,8 +69,8 @@ fn run_turns(geometry: Geometry, image: &mut [u8], turns: u32, kind: Kind) -> (u
     let mut buffer = [0u8; SECTOR_BYTES];
     let sum = match kind {
         Kind::Hit => read_turns(&mut cache, turns, FRAMES as u32, &mut buffer),
-        Kind::Clean => read_turns(&mut cache, turns, 128, &mut buffer),
-        Kind::Dirty => write_turns(&mut cache, turns, 128, &mut buffer),
+        Kind::Clean => read_turns(&mut cache, turns, SECTORS, &mut buffer),
+        Kind::Dirty => write_turns(&mut cache, turns, SECTORS, &mut buffer),
     };
     let fetches = cache.fetches();
     drop(cache.end(slip));
@@ -89,10 +89,7 @@ fn sum_of(image: &[u8]) -> u8 {
 fn arguments(rt: &HostRuntime) -> anyhow::Result<(u32, Kind)> {
     let mut args = env::args(rt)?;
     let _ = args.next();
-    let Some(turns) = args.next() else {
-        return Err(anyhow!("give the number of turns and their kind"));
-    };
-    let Some(kind) = args.next() else {
+    let (Some(turns), Some(kind)) = (args.next(), args.next()) else {
         return Err(anyhow!("give the number of turns and their kind"));
     };
     Ok((
@@ -103,9 +100,7 @@ fn arguments(rt: &HostRuntime) -> anyhow::Result<(u32, Kind)> {
 
 fn run(rt: &HostRuntime) -> anyhow::Result<()> {
     let (turns, kind) = arguments(rt)?;
-    let Ok(geometry) = Geometry::new(FRAMES, 0) else {
-        return Err(anyhow!("no such geometry"));
-    };
+    let geometry = Geometry::new(FRAMES, 0).unwrap();
     let mut image = image_of(rt.alloc())?;
     let (fetches, sum) = run_turns(geometry, &mut image, turns, kind);
     let left = sum_of(&image);

@@ -4,30 +4,26 @@
 mod run;
 mod tasks;
 
-use base::VolumeKey;
-use planning::MOST_TOUCHES;
+use base::{MAX_TOUCHES, VolumeKey};
 use run::run_week;
-use sheet::sheet_of_trace;
+use sheet::{HEADER, sheet_of_trace};
 use std::io::Read;
 use trace::read_trace;
-use workspace::{MOST_BYTES, Workspace};
+use workspace::{MAX_INPUT_BYTES, Workspace};
 
 fn print_week(rt: &HostRuntime, text: &[u8]) -> anyhow::Result<()> {
     let heap = rt.alloc();
-    let mut keys = vec![in heap; VolumeKey::new(0, 0); MOST_TOUCHES]?;
+    let mut keys = vec![in heap; VolumeKey::new(0, 0); MAX_TOUCHES]?;
     let mut workspace = Workspace::new(heap)?;
     match sheet_of_trace(text, &mut keys, &mut workspace.lists()) {
         Ok(rows) => {
             println!(rt; "Tuesday: the sheet")?;
-            println!(rt; "  frames,LRU,FIFO,CLOCK,MIN")?;
+            println!(rt; "  {HEADER}")?;
             for row in &rows {
                 println!(rt; "  {row}")?;
             }
         }
-        Err(fault) => {
-            let report = fault.report();
-            println!(rt; "refused,{report}")?;
-        }
+        Err(fault) => println!(rt; "{fault}")?,
     }
     if let Ok(touches) = read_trace(text, &mut keys) {
         if touches <= keys.len() {
@@ -39,7 +35,7 @@ fn print_week(rt: &HostRuntime, text: &[u8]) -> anyhow::Result<()> {
 
 fn take_through(rt: &HostRuntime) -> anyhow::Result<()> {
     let mut text = Vec::new(rt.alloc());
-    rt.reader().take(MOST_BYTES).read_to_end(&mut text)?;
+    rt.reader().take(MAX_INPUT_BYTES).read_to_end(&mut text)?;
     println!(rt; "Monday: a trace of {} bytes", text.len())?;
     print_week(rt, &text)
 }

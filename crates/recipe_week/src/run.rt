@@ -1,9 +1,9 @@
 // Planning, the run through the cache, and the end.
 use crate::tasks::{PINNED, SECTORS, TASKS, touches_of, turns_of};
 use anyhow::anyhow;
-use base::{Geometry, Sector, VolumeKey};
+use base::{Geometry, SECTOR_BYTES, Sector, VolumeKey};
 use cache::{SetUpCache, run_turns};
-use disk::{Disk, ImageDisk, SECTOR_BYTES, Tallies, Turn, serve_turns};
+use disk::{Disk, ImageDisk, Tallies, Turn, serve_turns};
 use planning::{Plan, plan_touches};
 use policy::Lru;
 use std::alloc::Global;
@@ -15,7 +15,7 @@ const FRAMES: usize = 4;
 
 const SMALLER: usize = 2;
 
-const IMAGE_BYTES: usize = 32_768;
+const IMAGE_BYTES: usize = SECTORS as usize * SECTOR_BYTES;
 
 // What a run through the cache came to.
 #[derive(Clone, Copy)]
@@ -80,9 +80,7 @@ pub fn run_week(rt: &HostRuntime, keys: &[VolumeKey]) -> anyhow::Result<()> {
         "  fewest fetches {}, ceiling {}",
         plan.fetches, plan.ceiling
     )?;
-    let Ok(geometry) = Geometry::new(FRAMES, 1) else {
-        return Err(anyhow!("no such geometry"));
-    };
+    let geometry = Geometry::new(FRAMES, 1).unwrap();
     let mut turns = turns_of(heap, keys)?;
     let mut again = turns_of(heap, keys)?;
     let mut image = vec![in heap; 0u8; IMAGE_BYTES]?;

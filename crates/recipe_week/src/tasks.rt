@@ -1,6 +1,6 @@
 // The recorded touches as turns of six tasks, each touch a turn, and the plan's list of the touches that a cache sees.
-use base::{Sector, VolumeKey};
-use disk::{Request, SECTOR_BYTES, Turn};
+use base::{SECTOR_BYTES, Sector, VolumeKey};
+use disk::{Request, Turn};
 use std::alloc::{AllocError, Global};
 
 // The image has so many sectors; a recorded sector number is folded into it.
@@ -26,17 +26,19 @@ fn request_at(place: usize) -> Request {
 
 // A turn for each touch, dealt to the six tasks in order, and a flush at the end.
 pub fn turns_of(heap: Global, keys: &[VolumeKey]) -> Result<Vec<Turn>, AllocError> {
-    let mut turns = Vec::new(heap);
-    for (place, key) in keys.iter().enumerate() {
-        let byte = (place % 251) as u8;
-        turns.push(Turn {
-            task: (place % TASKS) as u8 + 1,
-            request: request_at(place),
-            sector: image_sector(key),
-            buffer: vec![in heap; byte; SECTOR_BYTES]?,
-            answer: None,
-        })?;
-    }
+    let mut turns: Vec<Turn> = keys
+        .iter()
+        .enumerate()
+        .map(|(place, key)| -> Result<Turn, AllocError> {
+            Ok(Turn {
+                task: (place % TASKS) as u8 + 1,
+                request: request_at(place),
+                sector: image_sector(key),
+                buffer: vec![in heap; (place % 251) as u8; SECTOR_BYTES]?,
+                answer: None,
+            })
+        })
+        .try_collect(heap)?;
     turns.push(Turn {
         task: 1,
         request: Request::Flush,

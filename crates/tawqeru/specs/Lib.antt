@@ -1,1 +1,2 @@
 pub mod PlanLines
+pub mod Recordings

@@ -1,7 +1,8 @@
 // Serves turns of several tasks on two images joined to one disk, and prints each turn with its answer, then the tallies.
 #![tactic(auto)]
 
-use disk::{Disk, ImageDisk, JoinedDisk, Request, SECTOR_BYTES, Turn, serve_turns};
+use base::SECTOR_BYTES;
+use disk::{Disk, ImageDisk, JoinedDisk, Request, Turn, serve_turns};
 use std::alloc::{AllocError, Global};
 use std::io;
 
@@ -55,8 +56,8 @@ fn print_turn(rt: &HostRuntime, turn: &Turn) -> io::Result<()> {
 
 fn run(rt: &HostRuntime) -> anyhow::Result<()> {
     let heap = rt.alloc();
-    let mut first = vec![in heap; 1u8; 1024]?;
-    let mut second = vec![in heap; 2u8; 1536]?;
+    let mut first = vec![in heap; 1u8; 2 * SECTOR_BYTES]?;
+    let mut second = vec![in heap; 2u8; 3 * SECTOR_BYTES]?;
     let none: [u32; 0] = [];
     let dead = [1u32];
     let mut turns = turns_of_tasks(heap)?;

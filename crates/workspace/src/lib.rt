@@ -5,18 +5,19 @@
 ghost use Rattle.std.specs.Prelude.{◌≡◌, IfOk};
 ghost use Rattle.workspace.specs.Sizes.{Sized};
 
-use base::Key;
+use base::{Key, MAX_FRAMES, MAX_TOUCHES};
 use index::Slot;
-use planning::{Lists, MOST_TOUCHES};
+use planning::Lists;
 use std::alloc::{AllocError, Global};
+use trace::MAX_TEXT_BYTES;
 
 // One byte past the longest trace shows that a trace is too long.
-pub const MOST_BYTES: u64 = 32_769;
+pub const MAX_INPUT_BYTES: u64 = MAX_TEXT_BYTES as u64 + 1;
+
+const _: () = prove!(MAX_INPUT_BYTES > MAX_TEXT_BYTES as u64);
 
 // More than a third of the slots stay free, so that the index answers in a constant number of steps.
 const SLOTS: usize = 8192;
-
-const MOST_FRAMES: usize = 64;
 
 #[cfg(test)]
 mod tests;
@@ -36,9 +37,9 @@ impl<K: Key> Workspace<K> {
     {
         Ok(Workspace {
             slots: vec![in heap; None; SLOTS]?,
-            next: vec![in heap; 0; MOST_TOUCHES]?,
-            held: vec![in heap; 0; MOST_FRAMES]?,
-            serving: vec![in heap; 0; MOST_TOUCHES]?,
+            next: vec![in heap; 0; MAX_TOUCHES]?,
+            held: vec![in heap; 0; MAX_FRAMES]?,
+            serving: vec![in heap; 0; MAX_TOUCHES]?,
         })
     }
 
