@@ -50,7 +50,7 @@ fn writes_reach_the_images(rt: HostRuntime) -> Result<(), Fail> {
     drop(disk);
     checked?;
     assert_eq!(rt; fetches, 6);
-    assert_eq!(rt; [byte_in(&one, 0), byte_in(&one, 1)], [Some(50), Some(51)]);
-    assert_eq!(rt; [byte_in(&two, 0), byte_in(&two, 1)], [Some(10), Some(53)]);
+    assert_eq!(rt; bytes_in(&one), [Some(50), Some(51)]);
+    assert_eq!(rt; bytes_in(&two), [Some(10), Some(53)]);
     Ok(())
 }

@@ -88,9 +88,6 @@ fn pinned_sectors_are_not_fetched(rt: HostRuntime) -> Result<(), Fail> {
     checked?;
     assert_eq!(rt; disk.tallies(), Tallies::new(2, 2));
     drop(disk);
-    assert_eq!(rt;
-        [byte_in(&image, 0), byte_in(&image, 1)],
-        [Some(60), Some(61)]
-    );
+    assert_eq!(rt; bytes_in(&image), [Some(60), Some(61)]);
     Ok(())
 }

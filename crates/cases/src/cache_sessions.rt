@@ -36,14 +36,7 @@ fn calls_behind_one_frame(rt: HostRuntime) -> Result<(), Fail> {
     checked?;
     assert_eq!(rt; disk.tallies(), Tallies::new(3, 1));
     drop(disk);
-    assert_eq!(rt;
-        [byte_in(&image, 0), byte_in(&image, 1)],
-        [Some(50), Some(11)]
-    );
-    assert_eq!(rt;
-        [byte_in(&image, 2), byte_in(&image, 3)],
-        [Some(12), Some(13)]
-    );
+    assert_eq!(rt; bytes_in(&image), [Some(50), Some(11), Some(12), Some(13)]);
     Ok(())
 }
 
@@ -83,14 +76,7 @@ fn turns_behind_one_frame(rt: HostRuntime) -> Result<(), Fail> {
     assert_eq!(rt; (fetches, disk.tallies()), (3, Tallies::new(3, 1)));
     drop(disk);
     check_turns(&turns, &CASES)?;
-    assert_eq!(rt;
-        [byte_in(&image, 0), byte_in(&image, 1)],
-        [Some(50), Some(11)]
-    );
-    assert_eq!(rt;
-        [byte_in(&image, 2), byte_in(&image, 3)],
-        [Some(12), Some(13)]
-    );
+    assert_eq!(rt; bytes_in(&image), [Some(50), Some(11), Some(12), Some(13)]);
     Ok(())
 }
 

@@ -5,22 +5,20 @@ ghost use Rattle.cache.specs.SetUp.{Ready};
 use crate::cache_helpers::run;
 use crate::disk_helpers::*;
 use crate::helpers::check_eq;
-use base::Geometry;
+use base::{Geometry, Refusal};
 use cache::{Cache, SetUpCache};
 use disk::{Disk, ImageDisk, Tallies};
 use policy::{Lru, Policy};
 use std::test::Fail;
 
-// Pins the first eight sectors, and answers whether every pin was accepted.
-fn pin_eight<D: Disk, P: Policy>(set_up: &mut SetUpCache<D, P>) -> bool
+fn pin_eight<D: Disk, P: Policy>(set_up: &mut SetUpCache<D, P>) -> Result<(), Refusal>
     requires { Ready D.Disk P.Policy set_up.old }
     ensures { Ready D.Disk P.Policy set_up.new }
 {
-    let mut accepted = true;
     for sector in 0..8 {
-        accepted &= set_up.pin(sector).is_ok();
+        set_up.pin(sector)?;
     }
-    accepted
+    Ok(())
 }
 
 // Reads every sector, each of which comes with its byte.
@@ -54,7 +52,7 @@ fn largest_cache_holds_72_sectors(rt: HostRuntime) -> Result<(), Fail> {
     let pinned = pin_eight(&mut set_up);
     let (disk, checked) = run(set_up, check_rounds::<ImageDisk<'_>, Lru>);
     checked?;
-    assert!(rt; pinned);
+    assert_eq!(rt; pinned, Ok(()));
     assert_eq!(rt; disk.tallies(), Tallies::new(72, 0));
     Ok(())
 }

@@ -1,8 +1,8 @@
 // Calls of a disk of any kind, with buffers of one byte throughout.
 ghost use Rattle.std.specs.Prelude.{◌≤◌};
 
-use base::Refusal;
-use disk::{Disk, SECTOR_BYTES};
+use base::{Refusal, SECTOR_BYTES};
+use disk::Disk;
 use std::alloc::{AllocError, Global};
 
 // What a buffer holds before a read.
@@ -51,4 +51,9 @@ pub fn image_of(heap: Global, len: usize) -> Result<Vec<u8>, AllocError> {
 // The byte that an image has throughout a sector, or throughout the part of it that there is.
 pub fn byte_in(image: &[u8], sector: usize) -> Option<u8> {
     only_byte(image.chunks(SECTOR_BYTES).nth(sector)?)
+}
+
+// The bytes of its first sectors.
+pub fn bytes_in<const SECTORS: usize>(image: &[u8]) -> [Option<u8>; SECTORS] {
+    std::array::from_fn(|sector| byte_in(image, sector))
 }

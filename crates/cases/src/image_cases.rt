@@ -60,14 +60,10 @@ fn check_disk(image: &mut [u8]) -> Result<(), Fail> {
 fn images_are_read_and_written(rt: HostRuntime) -> Result<(), Fail> {
     let mut image = image_of(rt.alloc(), 4 * 512 + 7)?;
     check_disk(&mut image)?;
+    assert_eq!(rt; image.len(), 4 * 512 + 7);
     assert_eq!(rt;
-        [byte_in(&image, 0), byte_in(&image, 1)],
-        [Some(10), Some(99)]
+        bytes_in(&image),
+        [Some(10), Some(99), Some(12), Some(98), Some(14)]
     );
-    assert_eq!(rt;
-        [byte_in(&image, 2), byte_in(&image, 3)],
-        [Some(12), Some(98)]
-    );
-    assert_eq!(rt; (image.len(), byte_in(&image, 4)), (4 * 512 + 7, Some(14)));
     Ok(())
 }

@@ -34,20 +34,20 @@ fn count<K>(model: &[Pair<K>]) -> usize {
     model.iter().filter(|(_, number)| number.is_some()).count()
 }
 
-// Puts a key into both or takes it out of both; answers whether the index refuses it.
+// Puts a key into both or takes it out of both; gives back what the index answers.
 fn change<K: Key>(
     index: &mut Index<'_, K>,
     held: &mut Option<u32>,
     key: K,
     stored: Option<u32>,
     has_room: bool,
-) -> Result<bool, Fail>
+) -> Result<Result<(), Refusal>, Fail>
     requires { Sound K.Key.code K.Key.spread index.old }
     ensures { Sound K.Key.code K.Key.spread index.new }
 {
     let Some(number) = stored else {
         check_eq(index.remove(&key), held.take())?;
-        return Ok(false);
+        return Ok(Ok(()));
     };
     let expected = if has_room || held.is_some() {
         *held = stored;
@@ -56,16 +56,16 @@ fn change<K: Key>(
         Err(Refusal::IndexFull)
     };
     check_eq(index.put(key, number), expected)?;
-    Ok(expected.is_err())
+    Ok(expected)
 }
 
-// One call on both; answers whether the index refuses it.
+// One call on both; gives back what the index answers.
 fn compare<K: Key>(
     index: &mut Index<'_, K>,
     model: &mut [Pair<K>],
     random: u64,
     number: u32,
-) -> Result<bool, Fail>
+) -> Result<Result<(), Refusal>, Fail>
     requires { Sound K.Key.code K.Key.spread index.old }
     ensures { Sound K.Key.code K.Key.spread index.new }
 {
@@ -75,11 +75,11 @@ fn compare<K: Key>(
     let (key, mut held) = model[place];
     check_eq(index.find(&key), held)?;
     let stored = ((random >> 60) % 4 != 0).then_some(number);
-    let refused = change(index, &mut held, key, stored, has_room)?;
+    let answer = change(index, &mut held, key, stored, has_room)?;
     check_eq(index.find(&key), held)?;
     model[place] = (key, held);
     check_eq(index.len(), count(model))?;
-    Ok(refused)
+    Ok(answer)
 }
 
 // Two thousand calls; answers how many of them the index refuses.
@@ -88,7 +88,7 @@ fn count_refused<K: Key>(slots: &mut [Slot<K>], model: &mut [Pair<K>]) -> Result
     let mut random = Random { state: 1 };
     let mut refused: u32 = 0;
     for number in 0..2000 {
-        if compare(&mut index, model, random.next(), number)? {
+        if compare(&mut index, model, random.next(), number)?.is_err() {
             refused = refused.saturating_add(1);
         }
     }

@@ -57,7 +57,7 @@ fn joins_serve_both_disks(rt: HostRuntime) -> Result<(), Fail> {
     let mut one = image_of(rt.alloc(), 512)?;
     let mut two = image_of(rt.alloc(), 1024)?;
     check_join(&mut one, &mut two, &mut [7; 511], &mut [10; 512])?;
-    assert_eq!(rt; byte_in(&one, 0), Some(50));
-    assert_eq!(rt; [byte_in(&two, 0), byte_in(&two, 1)], [Some(10), Some(52)]);
+    assert_eq!(rt; bytes_in(&one), [Some(50)]);
+    assert_eq!(rt; bytes_in(&two), [Some(10), Some(52)]);
     Ok(())
 }

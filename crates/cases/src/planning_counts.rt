@@ -3,7 +3,7 @@ use crate::anomaly_touches;
 use crate::helpers::*;
 use base::{Key, Refusal, Sector, VolumeKey};
 use index::Slot;
-use planning::{Lists, Plan, ceiling, forecast_touches, plan_touches};
+use planning::{Forecast, Lists, Plan, ceiling, forecast_touches, plan_touches};
 use policy::{Clock, Fifo, Lru, Policy};
 use std::test::Fail;
 use trace::read_trace;
@@ -33,65 +33,34 @@ fn fewest_of<K: Key>(
     Ok(plan_touches(keys, 64, frames, &mut lists)?.fetches)
 }
 
-// A number of frames, the fewest fetches on them, and the frames that serve twelve touches; two places more stay as they are.
-#[derive(Clone, Copy)]
-struct Schedule {
-    frames: usize,
-    fetches: u64,
-    serving: [u8; 14],
-}
-
-const SCHEDULES: [Schedule; 6] = [
-    Schedule {
-        frames: 1,
-        fetches: 12,
-        serving: [0, 0, 0, 0, 0, 0, 0, 0, 0, 0, 0, 0, 77, 77],
-    },
-    Schedule {
-        frames: 2,
-        fetches: 9,
-        serving: [0, 1, 1, 1, 0, 1, 1, 0, 0, 0, 0, 1, 77, 77],
-    },
-    Schedule {
-        frames: 3,
-        fetches: 7,
-        serving: [0, 1, 2, 2, 0, 1, 2, 0, 1, 0, 0, 2, 77, 77],
-    },
-    Schedule {
-        frames: 4,
-        fetches: 6,
-        serving: [0, 1, 2, 3, 0, 1, 3, 0, 1, 2, 0, 3, 77, 77],
-    },
-    Schedule {
-        frames: 8,
-        fetches: 5,
-        serving: [0, 1, 2, 3, 0, 1, 4, 0, 1, 2, 3, 4, 77, 77],
-    },
-    Schedule {
-        frames: 64,
-        fetches: 5,
-        serving: [0, 1, 2, 3, 0, 1, 4, 0, 1, 2, 3, 4, 77, 77],
-    },
+// The frames that serve twelve touches, for each number of frames in `FETCHES`; two places more stay as they are.
+const SERVING: [[u8; 14]; 6] = [
+    [0, 0, 0, 0, 0, 0, 0, 0, 0, 0, 0, 0, 77, 77],
+    [0, 1, 1, 1, 0, 1, 1, 0, 0, 0, 0, 1, 77, 77],
+    [0, 1, 2, 2, 0, 1, 2, 0, 1, 0, 0, 2, 77, 77],
+    [0, 1, 2, 3, 0, 1, 3, 0, 1, 2, 0, 3, 77, 77],
+    [0, 1, 2, 3, 0, 1, 4, 0, 1, 2, 3, 4, 77, 77],
+    [0, 1, 2, 3, 0, 1, 4, 0, 1, 2, 3, 4, 77, 77],
 ];
 
 #[test]
 fn schedules_have_the_fewest_fetches(rt: HostRuntime) -> Result<(), Fail> {
     let keys = sectors_of(rt.alloc(), &anomaly_touches())?;
-    for schedule in &SCHEDULES {
+    for ((frames, _, fewest), expected) in FETCHES.iter().zip(&SERVING) {
         let mut serving = [77; 14];
-        let fetches = fewest_of(&keys, schedule.frames, &mut [None; 12], &mut serving)?;
-        assert_eq!(rt; (fetches, serving), (schedule.fetches, schedule.serving));
+        let fetches = fewest_of(&keys, *frames, &mut [None; 12], &mut serving)?;
+        assert_eq!(rt; (fetches, serving), (*fewest, *expected));
     }
     Ok(())
 }
 
-// A policy's fetches on four frames, and the plan by a schedule on a smaller number of frames.
+// What is forecast for four frames, by a schedule on a smaller number of frames.
 fn forecast_of<P: Policy + Drop>(
     setting: P::Setting,
     keys: &[Sector],
     smaller: usize,
     held: &mut [u32],
-) -> Result<(u64, Plan), Refusal>
+) -> Result<Forecast, Refusal>
 where
     P::Setting: Drop,
 {
@@ -101,8 +70,7 @@ where
         held,
         serving: &mut [0; 12],
     };
-    let forecast = forecast_touches::<P, Sector>(setting, keys, 4, smaller, &mut lists)?;
-    Ok((forecast.fetches, forecast.plan))
+    forecast_touches::<P, Sector>(setting, keys, 4, smaller, &mut lists)
 }
 
 #[test]
@@ -114,15 +82,15 @@ fn forecasts_have_all_three_counts(rt: HostRuntime) -> Result<(), Fail> {
     };
     assert_eq!(rt;
         forecast_of::<Lru>((), &keys, 2, &mut [0; 4]),
-        Ok((8, plan))
+        Ok(Forecast { plan, fetches: 8 })
     );
     assert_eq!(rt;
         forecast_of::<Fifo>((), &keys, 2, &mut [0; 4]),
-        Ok((10, plan))
+        Ok(Forecast { plan, fetches: 10 })
     );
     assert_eq!(rt;
         forecast_of::<Clock>((), &keys, 2, &mut [0; 4]),
-        Ok((10, plan))
+        Ok(Forecast { plan, fetches: 10 })
     );
     let few_places = forecast_of::<Lru>((), &keys, 2, &mut [0; 3]);
     assert_eq!(rt; few_places, Err(Refusal::TooFewPlaces));
@@ -134,8 +102,10 @@ fn forecasts_have_all_three_counts(rt: HostRuntime) -> Result<(), Fail> {
 }
 
 // The same touches as a trace.
-const TEXT: &str =
-    "0,1,512,R,0\n0,2,512,R,0\n0,3,512,R,0\n0,4,512,R,0\n0,1,512,R,0\n0,2,512,R,0\n0,5,512,R,0\n0,1,512,R,0\n0,2,512,R,0\n0,3,512,R,0\n0,4,512,R,0\n0,5,512,R,0\n";
+const TEXT: &str = "\
+    0,1,512,R,0\n0,2,512,R,0\n0,3,512,R,0\n0,4,512,R,0\n\
+    0,1,512,R,0\n0,2,512,R,0\n0,5,512,R,0\n\
+    0,1,512,R,0\n0,2,512,R,0\n0,3,512,R,0\n0,4,512,R,0\n0,5,512,R,0\n";
 
 fn check_rows(
     keys: &[VolumeKey],

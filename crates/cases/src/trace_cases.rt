@@ -1,9 +1,9 @@
 // Texts that the trace reader accepts or refuses, each with its answer.
 use crate::helpers::check_eq;
 use crate::trace_helpers::{judge, report_of};
-use base::VolumeKey;
+use base::{Refusal, VolumeKey};
 use std::test::Fail;
-use trace::Report;
+use trace::{ReplayFault, Report};
 
 // The number, line and field that are reported.
 type Numbers = (u8, u32, u8);
@@ -115,5 +115,13 @@ fn refuses() -> Result<(), Fail> {
 fn reports_are_printed_as_their_numbers(rt: HostRuntime) -> Result<(), Fail> {
     let shown = format!(in rt.alloc(); "{}", report_of((12, 3, 3)))?;
     assert_eq!(rt; shown.as_str(), "12,3,3");
+    Ok(())
+}
+
+#[test]
+fn faults_are_printed_as_refusals(rt: HostRuntime) -> Result<(), Fail> {
+    let fault = ReplayFault::Refused(Refusal::TraceTooLong);
+    let shown = format!(in rt.alloc(); "{fault}")?;
+    assert_eq!(rt; shown.as_str(), "refused,9,0,0");
     Ok(())
 }

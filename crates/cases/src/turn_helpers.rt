@@ -3,25 +3,25 @@ use crate::disk_helpers::only_byte;
 use crate::helpers::check_eq;
 use base::Refusal;
 use disk::{Request, Turn};
-use std::alloc::Global;
+use std::alloc::{AllocError, Global};
 use std::test::Fail;
 
 // A turn: its task, request and sector, and its buffer's length and byte; and how it ends: its answer, and the buffer's byte.
 pub type Case = (u8, Request, u32, (usize, u8), Result<(), Refusal>, u8);
 
-pub fn turns_of(heap: Global, cases: &[Case]) -> Result<Vec<Turn>, Fail> {
-    let mut turns = Vec::new(heap);
-    for (task, request, sector, (len, byte), ..) in cases {
-        let buffer = vec![in heap; *byte; *len]?;
-        turns.push(Turn {
-            task: *task,
-            request: *request,
-            sector: *sector,
-            buffer,
-            answer: None,
-        })?;
-    }
-    Ok(turns)
+pub fn turns_of(heap: Global, cases: &[Case]) -> Result<Vec<Turn>, AllocError> {
+    cases
+        .iter()
+        .map(|(task, request, sector, (len, byte), ..)| -> Result<Turn, AllocError> {
+            Ok(Turn {
+                task: *task,
+                request: *request,
+                sector: *sector,
+                buffer: vec![in heap; *byte; *len]?,
+                answer: None,
+            })
+        })
+        .try_collect(heap)
 }
 
 pub fn check_turns(turns: &[Turn], cases: &[Case]) -> Result<(), Fail> {
