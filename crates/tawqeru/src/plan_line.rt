@@ -1,7 +1,7 @@
 // A plan as it is printed, with what each policy fetches.
 ghost use Rattle.std.specs.Prelude.{◌≡◌, Some, map};
 ghost use Rattle.base.specs.Keys.{volume_code};
-ghost use Rattle.planning.specs.Lists.{places};
+ghost use Rattle.planning.specs.Lists.{places, SameLists};
 ghost use Rattle.tawqeru.specs.PlanLines.{lined, shown_line};
 
 use base::{Refusal, VolumeKey};
@@ -27,7 +27,8 @@ impl PlanLine {
         smaller: usize,
         lists: &mut Lists<'_, VolumeKey>,
     ) -> Result<PlanLine, Refusal>
-        ensures { result ≡ lined (map volume_code keys.now) frames smaller (places lists.old) }
+        ensures answer { result ≡ lined (map volume_code keys.now) frames smaller (places lists.old) }
+        ensures same { SameLists lists.old lists.new }
     {
         let lru = forecast_touches::<Lru, VolumeKey>((), keys, frames, smaller, lists)?;
         let fifo = forecast_touches::<Fifo, VolumeKey>((), keys, frames, smaller, lists)?;

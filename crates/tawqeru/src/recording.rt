@@ -1,6 +1,7 @@
 // A trace from standard input, with the lists that it is read into and planned in.
-ghost use Rattle.std.specs.Prelude.{◌≡◌, IfOk};
-ghost use Rattle.sheet.specs.Rows.{sheet_of};
+ghost use Rattle.std.specs.Prelude.{◌≡◌, IfOk, vec_len};
+ghost use Rattle.trace.specs.Touches.{judged, Written};
+ghost use Rattle.sheet.specs.Rows.{touches_for, sheet_of};
 ghost use Rattle.tawqeru.specs.Recordings.{line_of, lent_by, most_lent};
 
 use crate::plan_line::PlanLine;
@@ -32,14 +33,18 @@ impl Recording {
     }
 
     pub fn sheet(&mut self) -> Result<[Row; 6], ReplayFault>
-        ensures { result ≡ sheet_of self.old.text.items (lent_by self.old) }
+        ensures answer { result ≡ sheet_of self.old.text.items (lent_by self.old) }
+        ensures text { self.new.text ≡ self.old.text }
+        ensures keys { Written (touches_for self.old.text.items (lent_by self.old)) self.old.keys.items self.new.keys.items }
     {
         sheet_of_trace(&self.text, &mut self.keys, &mut self.workspace.lists())
     }
 
     // The plan for so many frames by a schedule on a smaller number, and what each policy fetches.
     pub fn plan(&mut self, frames: usize, smaller: usize) -> Result<PlanLine, ReplayFault>
-        ensures { result ≡ line_of self.old.text.items (lent_by self.old) frames smaller }
+        ensures answer { result ≡ line_of self.old.text.items (lent_by self.old) frames smaller }
+        ensures text { self.new.text ≡ self.old.text }
+        ensures keys { Written (judged self.old.text.items (vec_len self.old.keys)) self.old.keys.items self.new.keys.items }
     {
         let touches = read_trace(&self.text, &mut self.keys)?;
         let keys = &self.keys[..touches];
