@@ -1,5 +1,5 @@
 -- Every trace within the limits is accepted. Assumes nothing.
-use Rattle.std.proofs.Common.{◌≡◌, ℕ, ◌+◌, ◌-◌, ◌*◌, ◌/◌, ◌%◌, ◌<◌, ◌≤◌, true, false, cond, ◌&&◌, eqb, List, [], ◌∷◌, ◌++◌, length, get_or, is_some, Some, Ok, Err, Result, sym, refl, ap, ◌∙◌, subst, append_assoc, append-nil, arith, length-append}
+use Rattle.std.proofs.Common.{◌≡◌, ℕ, ◌+◌, ◌-◌, ◌*◌, ◌/◌, ◌%◌, ◌<◌, ◌≤◌, true, false, ◌&&◌, List, [], ◌∷◌, ◌++◌, length, is_some, Some, Ok, sym, refl, ap, ◌∙◌, subst, append-nil, arith, length-append}
 use Rattle.std.specs.List.{AllByRecursion}
 use Rattle.std.proofs.ByRecursion.{All-append}
 use Rattle.std.proofs.lemmas.Bool.{le-leb}
@@ -7,15 +7,16 @@ use Rattle.std.proofs.lemmas.Bool.Decides.{nat_tests}
 use Rattle.trace.specs.declared.access.Access.{Access}
 use Rattle.trace.specs.declared.access.Opcode.{Opcode}
 use Rattle.trace.specs.declared.access.Opcode.TheVariants.{Read, Write}
-use Rattle.trace.specs.declared.fault.LineFault.{LineFault}
-use Rattle.trace.specs.declared.fault.LineFault.TheVariants as line_fault
-use Rattle.trace.specs.Splits.{parts, lines, Lacks}
+use Rattle.trace.specs.Splits.{lines, Lacks}
 use Rattle.trace.specs.Numerals.{digit, all_digits, numeral}
-use Rattle.trace.specs.Accesses.{opcode_of, time_stamp, access_in, in_line, access_of, sectors_in}
+use Rattle.trace.specs.Accesses.{and_then, at_most, sized, sectors_in, opcode_of, opcode_in, time_stamp, stamp_in, reaches, access_in, in_line, access_of}
 use Rattle.trace.specs.Touches.{judged_lines}
+use Rattle.trace.specs.Refused.{to_return, FiveFields, UpTo, Whole, Numbers}
 use Rattle.trace.specs.Traces.{Number, OpcodeText, upper_r, lower_r, upper_w, lower_w, TimeStamp, whole, fraction, Line, Trace, none, last, fed, returned}
 use Rattle.trace.proofs.Numerals.{numeral_read}
-use Rattle.trace.proofs.Splitting.{parts_none, parts_cut, lines_fed, lines_only, unreturned_none, unreturned_one}
+use Rattle.trace.proofs.Beginnings.{begins_lines}
+use Rattle.trace.proofs.Fives.{fields_access}
+use Rattle.trace.proofs.Splitting.{lines_fed, lines_only, unreturned_none}
 use Rattle.trace.proofs.Stamps.{digits_lack, stamp_whole, stamp_cut}
 use Rattle.trace.proofs.Judging.{length-touches}
 
@@ -24,19 +25,19 @@ numeric_all [] h = refl
 numeric_all (b ∷ bs) h = rw (le-leb 48 b h.0.0, le-leb b 57 h.0.1, numeric_all bs h.1)
 
 module _ {most : ℕ} {bs : List ℕ} {n : ℕ} (h : Number most bs n) where
-  number_numeral : numeral most bs ≡ Some n
+  pub number_numeral : numeral most bs ≡ Some n
   number_numeral = numeral_read most bs h.some h.few (numeric_all bs h.digits) ∙ ap (λ z. Some z) h.writes
 
   number_lacks : (mark : ℕ) → digit mark ≡ false → Lacks mark bs
   number_lacks mark e = digits_lack mark bs e (numeric_all bs h.digits)
 
-stamp_stamped : {bs : List ℕ} → TimeStamp bs → time_stamp bs ≡ true
+pub stamp_stamped : {bs : List ℕ} → TimeStamp bs → time_stamp bs ≡ true
 stamp_stamped (whole {bs} h) = stamp_whole bs (number_lacks h 46 refl) ∙ ap is_some (number_numeral h)
 stamp_stamped (fraction {bs} {cs} h k) =
     stamp_cut (bs ++ (46 ∷ cs)) bs cs (record { whole = refl; first = number_lacks h 46 refl })
     ∙ (λ i. is_some (number_numeral h i) && is_some (number_numeral k i))
 
-opcode_asked : {bs : List ℕ} → OpcodeText bs → (o : Opcode) × (opcode_of bs ≡ Some o)
+pub opcode_asked : {bs : List ℕ} → OpcodeText bs → (o : Opcode) × (opcode_of bs ≡ Some o)
 opcode_asked upper_r = (Read, refl)
 opcode_asked lower_r = (Read, refl)
 opcode_asked upper_w = (Write, refl)
@@ -54,36 +55,67 @@ opcode_lacks mark l lower_r = (λ e. omega arith, tt)
 opcode_lacks mark l upper_w = (λ e. omega arith, tt)
 opcode_lacks mark l lower_w = (λ e. omega arith, tt)
 
+pub up_to_numeral : {greatest : ℕ} {bs : List ℕ} (u : UpTo greatest bs) → at_most greatest (numeral 10 bs) ≡ Some u.n
+up_to_numeral {greatest} u = rw (number_numeral u.is, le-leb u.n greatest u.most)
+
+pub whole_sized : {bytes sectors : ℕ} → Whole bytes sectors → sized bytes ≡ true
+whole_sized {bytes} {sectors} w =
+    let low : 512 ≤ bytes = omega (arith, w.is, w.some) in
+    let high : bytes ≤ 65536 = omega (arith, w.is, w.few) in
+    let even : bytes % 512 ≡ 0 = omega (arith, w.is) in
+    rw (le-leb 512 bytes low, le-leb bytes 65536 high, even)
+
+whole_sectors : (n : ℕ) (bs : List ℕ) {bytes sectors : ℕ} → Number 10 bs bytes → Whole bytes sectors → sectors_in n bs ≡ Ok sectors
+whole_sectors n bs {bytes} {sectors} h w =
+    let count : bytes / 512 ≡ sectors = omega (arith, w.is) in
+    rw (number_numeral h, whole_sized w, count)
+
+-- the first three fields are accepted, and the others are judged
+pub numbers_access : {line : List ℕ} {f : FiveFields line} {first sectors : ℕ} (m : Numbers f first sectors) (n : ℕ) →
+    access_in n f.asu f.lba f.size f.opcode f.stamp ≡
+    and_then (opcode_in n f.opcode) (λ o. and_then (stamp_in n f.stamp) (λ _. and_then (reaches n first sectors) (λ _.
+    Ok (record { asu = m.unit.n; lba = first; sectors = sectors; opcode = o }))))
+numbers_access {line} {f} {first} {sectors} m n =
+    let lba : UpTo 4294967295 f.lba = record { n = first; is = m.first_is; most = m.first_most } in
+    rw (up_to_numeral m.unit, up_to_numeral lba, whole_sectors n f.size m.bytes_are m.whole)
+
 module _ {bs ts : List ℕ} (h : Line bs ts) where
   abbrev line_access : Access
   line_access = record { asu = h.unit; lba = h.first; sectors = h.sectors; opcode = (opcode_asked h.opcode_is).0 }
 
-  line_fields : parts 44 bs ≡ h.asu ∷ (h.lba ∷ (h.size ∷ (h.opcode ∷ (h.stamp ∷ []))))
-  line_fields =
-      ap (parts 44) h.text_is
-      ∙ parts_cut 44 h.asu _ (number_lacks h.asu_is 44 refl)
-      ∙ ap (λ ps. h.asu ∷ ps) (parts_cut 44 h.lba _ (number_lacks h.lba_is 44 refl)
-      ∙ ap (λ ps. h.lba ∷ ps) (parts_cut 44 h.size _ (number_lacks h.size_is 44 refl)
-      ∙ ap (λ ps. h.size ∷ ps) (parts_cut 44 h.opcode _ (opcode_lacks 44 (omega arith) h.opcode_is)
-      ∙ ap (λ ps. h.opcode ∷ ps) (parts_none 44 h.stamp (stamp_lacks 44 (omega arith) h.stamp_is)))))
+  abbrev line_fields : FiveFields bs
+  line_fields = record {
+    asu = h.asu;
+    lba = h.lba;
+    size = h.size;
+    opcode = h.opcode;
+    stamp = h.stamp;
+    line_is = h.text_is;
+    apart = (
+      number_lacks h.asu_is 44 refl,
+      (
+        number_lacks h.lba_is 44 refl,
+        (number_lacks h.size_is 44 refl, (opcode_lacks 44 (omega arith) h.opcode_is, (stamp_lacks 44 (omega arith) h.stamp_is, tt))),
+      ),
+    );
+  }
 
-  line_sectors : (n : ℕ) → sectors_in n h.size ≡ Ok h.sectors
-  line_sectors n =
-      let k = h.sectors in
-      let low : 512 ≤ k * 512 = omega (arith, h.some) in
-      let high : k * 512 ≤ 65536 = omega (arith, h.few) in
-      let even : k * 512 % 512 ≡ 0 = omega arith in
-      let count : k * 512 / 512 ≡ k = omega arith in
-      rw (number_numeral h.size_is, le-leb 512 (k * 512) low, le-leb (k * 512) 65536 high, even, count)
-
-  line_accepted : (n : ℕ) → access_of n bs ≡ Ok line_access
+  pub line_accepted : (n : ℕ) → access_of n bs ≡ Ok line_access
   line_accepted n =
-      let F : List (List ℕ) → Result Access LineFault =
-      λ fs. cond (eqb (length fs) 5) (in_line (access_in n (get_or fs 0 []) (get_or fs 1 []) (get_or fs 2 []) (get_or fs 3 []) (get_or fs 4 []))) (Err (line_fault.FieldCount n)) in
       let low : h.first ≤ 4294967295 = omega (arith, h.some, h.last) in
       let reach : h.first + h.sectors - 1 ≤ 4294967295 = omega (arith, h.last) in
-      ap F line_fields
-      ∙ rw (number_numeral h.asu_is, le-leb h.unit 255 h.asu_most, number_numeral h.lba_is, le-leb h.first 4294967295 low, line_sectors n, (opcode_asked h.opcode_is).1, stamp_stamped h.stamp_is, le-leb (h.first + h.sectors - 1) 4294967295 reach)
+      let numbers : Numbers line_fields h.first h.sectors = record {
+        unit = record { n = h.unit; is = h.asu_is; most = h.asu_most };
+        first_is = h.lba_is;
+        first_most = low;
+        bytes = h.sectors * 512;
+        bytes_are = h.size_is;
+        whole = record { is = refl; some = h.some; few = h.few };
+      } in
+      let last = le-leb (h.first + h.sectors - 1) 4294967295 reach in
+      let fields : access_in n h.asu h.lba h.size h.opcode h.stamp ≡ Ok line_access =
+      numbers_access numbers n ∙ rw ((opcode_asked h.opcode_is).1, stamp_stamped h.stamp_is, last) in
+      fields_access line_fields n ∙ ap in_line fields
 
   line_lacks : (mark : ℕ) → mark < 44 → Lacks mark bs
   line_lacks mark l =
@@ -108,7 +140,7 @@ module _ {bs ts : List ℕ} (h : Line bs ts) where
   line_some : 0 < length bs
   line_some = rw (h.text_is, length-append) (omega arith)
 
-  line_length : length ts ≡ h.sectors
+  pub line_length : length ts ≡ h.sectors
   line_length = ap length h.touches_are ∙ length-touches line_access
 
   -- the line is the first of a text, with either ending
@@ -116,12 +148,7 @@ module _ {bs ts : List ℕ} (h : Line bs ts) where
   line_fed rest = lines_fed bs rest (line_lacks 10 (omega arith)) ∙ ap (λ l. l ∷ lines rest) (unreturned_none bs (line_lacks 13 (omega arith)))
 
   line_returned : (rest : List ℕ) → lines (bs ++ (13 ∷ (10 ∷ rest))) ≡ bs ∷ lines rest
-  line_returned rest =
-      let P : ℕ → Type 0 = λ b. b ≡ 10 → ⊥ in
-      let apart : P 13 = λ e. omega arith in
-      ap lines (sym (append_assoc bs (13 ∷ []) (10 ∷ rest)))
-      ∙ lines_fed (bs ++ (13 ∷ [])) rest (All-append P bs (13 ∷ []) (line_lacks 10 (omega arith)) (apart, tt))
-      ∙ ap (λ l. l ∷ lines rest) (unreturned_one bs)
+  line_returned rest = begins_lines (to_return (line_lacks 10 (omega arith)))
 
   lines_accepted : (n t : ℕ) (ls : List (List ℕ)) (us : List ℕ) → t + length (ts ++ us) ≤ 4096 → judged_lines (n + 1) (t + length ts) ls ≡ Ok us → judged_lines n t (bs ∷ ls) ≡ Ok (ts ++ us)
   lines_accepted n t ls us few more =

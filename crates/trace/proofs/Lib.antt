@@ -1,4 +1,6 @@
 pub mod Splitting
+pub mod Beginnings
+pub mod Fives
 pub mod Numerals
 pub mod Stamps
 pub mod Sectors
@@ -7,4 +9,6 @@ pub mod Judging
 pub mod Writing
 pub mod Sound
 pub mod Complete
+pub mod Refusing
+pub mod Deciding
 pub mod Exact

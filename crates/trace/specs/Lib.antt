@@ -5,3 +5,4 @@ pub mod Accesses
 pub mod Touches
 pub mod Reading
 pub mod Traces
+pub mod Refused

@@ -4,6 +4,7 @@ ghost use Rattle.base.specs.Keys.{volume_code};
 ghost use Rattle.trace.specs.Splits.{lines};
 ghost use Rattle.trace.specs.Touches.{touches, judged_lines, judged, counted, touches_in, Filled, Written};
 ghost use Rattle.trace.specs.Traces.{Reads};
+ghost use Rattle.trace.specs.Refused.{Refuses};
 
 use crate::access::Access;
 use crate::fault::{LineFault, ReplayFault};
@@ -14,11 +15,12 @@ use base::{MAX_TOUCHES, Refusal, VolumeKey};
 pub const MAX_TEXT_BYTES: usize = 32_768;
 
 // Reads a trace into keys, one for each touch, and answers how many.
-#[tactic(auto, using(crate::proofs::Exact::reads_all, crate::proofs::Exact::reads_refused))]
+#[tactic(auto, using(crate::proofs::Exact::reads_all, crate::proofs::Exact::reads_refused, crate::proofs::Exact::refuses_first))]
 pub fn read_trace(text: &[u8], keys: &mut [VolumeKey]) -> Result<usize, ReplayFault>
     ensures answer { result ≡ counted (judged text.now (length keys.old)) }
     ensures keys { Written (judged text.now (length keys.old)) keys.old keys.new }
     ensures trace { Reads text.now result keys.old keys.new }
+    ensures refused { Refuses text.now (length keys.old) result }
 {
     let count = judge_trace(text, keys.len())?;
     write_keys(text, keys);
@@ -26,8 +28,10 @@ pub fn read_trace(text: &[u8], keys: &mut [VolumeKey]) -> Result<usize, ReplayFa
 }
 
 // How many touches a text has, judged for a list of so many places: what a caller asks that lends more lists than the keys.
+#[tactic(auto, using(crate::proofs::Exact::refuses_first))]
 pub fn judge_trace(text: &[u8], places: usize) -> Result<usize, ReplayFault>
-    ensures { result ≡ counted (judged text.now places) }
+    ensures answer { result ≡ counted (judged text.now places) }
+    ensures refused { Refuses text.now places result }
 {
     if text.len() > MAX_TEXT_BYTES {
         return Err(ReplayFault::Refused(Refusal::TraceTooLong));
