@@ -6,3 +6,4 @@ pub mod Touches
 pub mod Reading
 pub mod Traces
 pub mod Refused
+pub mod Plain

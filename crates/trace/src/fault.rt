@@ -6,7 +6,10 @@ ghost use Rattle.trace.specs.declared.fault.ReplayFault.TheVariants as replay_fa
 
 use base::Refusal;
 
+mod plain;
 mod reports;
+
+pub use plain::Plain;
 
 // The five fields of a line, in their order, and their numbers in a report.
 #[derive(Clone, Copy, PartialEq, Eq, Debug)]

@@ -9,5 +9,5 @@ mod reader;
 mod splits;
 mod touches;
 
-pub use fault::{Field, FieldFault, LineFault, ReplayFault, Report};
+pub use fault::{Field, FieldFault, LineFault, Plain, ReplayFault, Report};
 pub use touches::{MAX_TEXT_BYTES, judge_trace, read_trace};
