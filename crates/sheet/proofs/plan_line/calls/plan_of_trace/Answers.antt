@@ -1,0 +1,21 @@
+use Rattle.std.proofs.Common.{◌≡◌, ℕ, List, map, length, take, Result, sym, ap, ◌∙◌, subst}
+use Rattle.std.proofs.lemmas.List.{length-map}
+use Rattle.base.specs.Keys.{volume_code}
+use Rattle.trace.specs.declared.fault.ReplayFault.{ReplayFault}
+use Rattle.trace.specs.Touches.{judged, accepted, Written}
+use Rattle.sheet.specs.PlanLines.{read_from, WithinCeiling}
+use Rattle.sheet.proofs.Sheets.{counted_some}
+use Rattle.sheet.proofs.plan_line.calls.plan_of_trace.Goals as goal
+
+pub returns-clause-bounded : goal.returns-clause-bounded
+returns-clause-bounded c =
+    let text = c.args.text.now in
+    let places = length c.args.keys.now in
+    let q = counted_some (judged text places) _ c.in_ok-touches.ensures.answer in
+    let filled = subst (λ (r : Result (List ℕ) ReplayFault). Written r c.args.keys.now c.read_trace.new.keys) q.1 c.in_ok-touches.ensures.keys in
+    let keys = take c.in_ok-touches.touches c.read_trace.new.keys in
+    let first : map volume_code keys ≡ q.0 = ap (λ n. map volume_code (take n c.read_trace.new.keys)) q.2 ∙ filled.first in
+    let read : map volume_code keys ≡ read_from text places = first ∙ sym (ap accepted q.1) in
+    let P : List ℕ → Type 0 = λ touches. WithinCeiling c.in_ok-plan_of_keys.field-0 touches (take (length touches) c.plan_of_keys.new.lists.serving.now) in
+    let long : length keys ≡ length (map volume_code keys) = sym (length-map keys volume_code) in
+    subst P read (subst (λ n. WithinCeiling c.in_ok-plan_of_keys.field-0 (map volume_code keys) (take n c.plan_of_keys.new.lists.serving.now)) long c.in_ok-plan_of_keys.ensures.bounded)
