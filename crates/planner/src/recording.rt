@@ -1,15 +1,15 @@
-// A trace from standard input, with the lists that it is read into and planned in.
+// A trace that has been read, with the lists that it is read into and planned in.
 ghost use Rattle.std.specs.Prelude.{◌≡◌, IfOk, vec_len};
 ghost use Rattle.trace.specs.Touches.{judged, Written};
 ghost use Rattle.sheet.specs.Rows.{touches_for, sheet_of};
-ghost use Rattle.tawqeru.specs.Recordings.{line_of, lent_by, most_lent};
+ghost use Rattle.sheet.specs.PlanLines.{line_of};
+ghost use Rattle.planner.specs.Recordings.{lent_by, most_lent};
 
-use crate::plan_line::PlanLine;
 use base::{MAX_TOUCHES, VolumeKey};
-use sheet::{Row, sheet_of_trace};
-use std::io::Read;
-use trace::{ReplayFault, read_trace};
-use workspace::{MAX_INPUT_BYTES, Workspace};
+use sheet::{PlanLine, Row, plan_of_trace, sheet_of_trace};
+use std::alloc::{AllocError, Global};
+use trace::ReplayFault;
+use workspace::Workspace;
 
 #[derive(Drop)]
 pub struct Recording {
@@ -19,12 +19,10 @@ pub struct Recording {
 }
 
 impl Recording {
-    pub fn read(rt: &HostRuntime) -> anyhow::Result<Recording>
-        ensures { IfOk result (λ recording. lent_by recording ≡ most_lent) }
+    pub fn new(heap: Global, text: Vec<u8>) -> Result<Recording, AllocError>
+        ensures text { IfOk result (λ recording. recording.text ≡ text) }
+        ensures lent { IfOk result (λ recording. lent_by recording ≡ most_lent) }
     {
-        let heap = rt.alloc();
-        let mut text = Vec::new(heap);
-        rt.reader().take(MAX_INPUT_BYTES).read_to_end(&mut text)?;
         Ok(Recording {
             text,
             keys: vec![in heap; VolumeKey::new(0, 0); MAX_TOUCHES]?,
@@ -46,8 +44,7 @@ impl Recording {
         ensures text { self.new.text ≡ self.old.text }
         ensures keys { Written (judged self.old.text.items (vec_len self.old.keys)) self.old.keys.items self.new.keys.items }
     {
-        let touches = read_trace(&self.text, &mut self.keys)?;
-        let keys = &self.keys[..touches];
-        Ok(PlanLine::forecast(keys, frames, smaller, &mut self.workspace.lists())?)
+        let lists = &mut self.workspace.lists();
+        plan_of_trace(&self.text, &mut self.keys, frames, smaller, lists)
     }
 }

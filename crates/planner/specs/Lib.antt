@@ -1,2 +1,1 @@
-pub mod PlanLines
 pub mod Recordings

@@ -1,0 +1,90 @@
+// The program tawqeru: judges its words, reads the trace, and prints the sheet, the plan or the refusal.
+use crate::asked::{Asked, asked_by};
+use crate::input::read_text;
+use crate::recording::Recording;
+use sheet::{HEADER, PLAN_HEADER, PlanLine, Row};
+use std::process::ExitCode;
+use std::{env, io};
+use trace::{Plain, ReplayFault};
+
+const USAGE: &str = "usage: tawqeru [FILE] [K H]
+Prints the sheet of the trace in FILE, or on standard input: the fetches of
+LRU, FIFO, CLOCK and MIN with 1, 2, 3, 4, 8 and 64 frames. With K and H it
+prints the plan for K frames by a schedule on H, with its ceiling, beside the
+fetches of each policy on K frames. A refused trace or plan gives the line
+refused,NUMBER,LINE,FIELD, and the refusal in words on standard error.
+A number names no file: a file 4 is given as ./4.";
+
+// A refusal's line, and beside it, on standard error, the refusal in plain words.
+pub fn print_refused(rt: &HostRuntime, fault: ReplayFault) -> io::Result<()> {
+    rt.println(fault)?;
+    rt.eprintln(Plain(fault))
+}
+
+fn print_sheet(rt: &HostRuntime, sheet: Result<[Row; 6], ReplayFault>) -> io::Result<()> {
+    match sheet {
+        Ok(rows) => {
+            rt.println(HEADER)?;
+            for row in &rows {
+                rt.println(row)?;
+            }
+            Ok(())
+        }
+        Err(fault) => print_refused(rt, fault),
+    }
+}
+
+fn print_plan(rt: &HostRuntime, plan: Result<PlanLine, ReplayFault>) -> io::Result<()> {
+    match plan {
+        Ok(line) => {
+            rt.println(PLAN_HEADER)?;
+            rt.println(line)
+        }
+        Err(fault) => print_refused(rt, fault),
+    }
+}
+
+// The trace is read only once the words are judged.
+fn answer(rt: &HostRuntime, words: &[String]) -> anyhow::Result<ExitCode> {
+    match asked_by(words) {
+        Asked::Help => rt.println(USAGE)?,
+        Asked::Misused(misuse) => {
+            eprintln!(rt; "tawqeru: {misuse}\n{USAGE}")?;
+            return Ok(ExitCode::FAILURE);
+        }
+        Asked::Sheet { file } => {
+            let mut recording = Recording::new(rt.alloc(), read_text(rt, file)?)?;
+            print_sheet(rt, recording.sheet())?;
+        }
+        Asked::Plan {
+            file,
+            frames,
+            smaller,
+        } => {
+            let mut recording = Recording::new(rt.alloc(), read_text(rt, file)?)?;
+            print_plan(rt, recording.plan(frames, smaller))?;
+        }
+    }
+    Ok(ExitCode::SUCCESS)
+}
+
+// The words behind the program's own name.
+pub fn words_of(rt: &HostRuntime) -> anyhow::Result<Vec<String>> {
+    let mut words = env::args(rt)?;
+    let _ = words.next();
+    Ok(words.collect(rt.alloc())?)
+}
+
+fn run(rt: &HostRuntime) -> anyhow::Result<ExitCode> {
+    answer(rt, &words_of(rt)?)
+}
+
+pub fn tawqeru(rt: &HostRuntime) -> io::Result<ExitCode> {
+    match run(rt) {
+        Ok(status) => Ok(status),
+        Err(error) => {
+            eprintln!(rt; "tawqeru: {error:#}")?;
+            Ok(ExitCode::FAILURE)
+        }
+    }
+}
