@@ -1,12 +1,11 @@
 // Planning, the run through the cache, and the end.
 use crate::tasks::{PINNED, SECTORS, TASKS, touches_of, turns_of};
-use anyhow::anyhow;
-use base::{Geometry, SECTOR_BYTES, Sector, VolumeKey};
+use base::{Geometry, Refusal, SECTOR_BYTES, Sector, VolumeKey};
 use cache::{SetUpCache, run_turns};
 use disk::{Disk, ImageDisk, Tallies, Turn, serve_turns};
-use planning::{Plan, plan_touches};
 use policy::Lru;
-use std::alloc::Global;
+use sheet::{PLAN_HEADER, PlanLine, plan_of_keys};
+use std::alloc::{AllocError, Global};
 use std::io;
 use workspace::Workspace;
 
@@ -19,19 +18,18 @@ const IMAGE_BYTES: usize = SECTORS as usize * SECTOR_BYTES;
 
 // What a run through the cache came to.
 #[derive(Clone, Copy)]
-pub struct Outcome {
+struct Outcome {
     fetches: u64,
+    sectors: u32,
     below: Tallies,
 }
 
-fn plan_for(heap: Global, touches: &[Sector]) -> anyhow::Result<Plan> {
+fn plan_for(heap: Global, touches: &[Sector]) -> Result<Result<PlanLine, Refusal>, AllocError> {
     let mut workspace = Workspace::new(heap)?;
-    plan_touches(touches, FRAMES, SMALLER, &mut workspace.lists()).map_err(|refusal| anyhow!(
-        "the plan is refused by {refusal}"
-    ))
+    Ok(plan_of_keys(touches, FRAMES, SMALLER, &mut workspace.lists()))
 }
 
-// Runs the turns through a cache over the image, by LRU, then reads one sector directly and ends the cache.
+// Runs the turns through a cache over the image, by LRU, then reads the pinned sector directly and ends the cache.
 fn run_cached(geometry: Geometry, image: &mut [u8], turns: &mut [Turn]) -> Outcome {
     let disk = ImageDisk::new(image, &[]);
     let mut set_up = SetUpCache::<ImageDisk<'_>, Lru>::new(geometry, disk, ());
@@ -39,11 +37,11 @@ fn run_cached(geometry: Geometry, image: &mut [u8], turns: &mut [Turn]) -> Outco
     let (mut cache, slip) = run_turns(set_up, turns);
     let mut buffer = [0u8; SECTOR_BYTES];
     let _ = cache.read_sector(PINNED, &mut buffer);
-    cache.flush();
     let fetches = cache.fetches();
     let disk = cache.end(slip);
     Outcome {
         fetches,
+        sectors: disk.count(),
         below: disk.tallies(),
     }
 }
@@ -57,9 +55,44 @@ fn yes_or_no(b: bool) -> &'static str {
     if b { "yes" } else { "no" }
 }
 
-fn print_outcome(rt: &HostRuntime, plan: Plan, outcome: Outcome) -> io::Result<()> {
-    let Outcome { fetches, below } = outcome;
-    let within = yes_or_no(fetches <= plan.ceiling);
+fn print_plan(
+    rt: &HostRuntime,
+    touches: usize,
+    unpinned: usize,
+    line: &PlanLine,
+) -> io::Result<()> {
+    println!(rt; "Wednesday: the plan for {FRAMES} frames, by a schedule on {SMALLER}")?;
+    println!(rt;
+        "  sector LBA of unit ASU is sector (LBA xor ASU) mod {SECTORS} of the image; sector {PINNED} is pinned"
+    )?;
+    println!(rt;
+        "  {touches} touches recorded, {unpinned} of them on sectors that are not pinned"
+    )?;
+    println!(rt; "  {PLAN_HEADER}")?;
+    println!(rt; "  {line}")
+}
+
+fn print_outcome(
+    rt: &HostRuntime,
+    turns: &[Turn],
+    line: &PlanLine,
+    outcome: Outcome,
+) -> io::Result<()> {
+    let Outcome {
+        fetches,
+        sectors,
+        below,
+    } = outcome;
+    let refused = turns
+        .iter()
+        .filter(|turn| turn.answer != Some(Ok(())))
+        .count();
+    let within = yes_or_no(fetches <= line.plan.ceiling);
+    println!(rt;
+        "Thursday: {TASKS} tasks take {} turns over {sectors} sectors, the last of them a flush; then sector {PINNED} is read",
+        turns.len()
+    )?;
+    println!(rt; "  {refused} turns are refused")?;
     println!(rt;
         "  F is {fetches}; below, {} reads and {} writes were served",
         below.reads, below.writes
@@ -67,32 +100,25 @@ fn print_outcome(rt: &HostRuntime, plan: Plan, outcome: Outcome) -> io::Result<(
     println!(rt; "  within the ceiling: {within}")
 }
 
-// From Wednesday to Friday.
-pub fn run_week(rt: &HostRuntime, keys: &[VolumeKey]) -> anyhow::Result<()> {
+// From Wednesday to Friday, unless the plan is refused.
+pub fn run_week(rt: &HostRuntime, keys: &[VolumeKey]) -> anyhow::Result<Result<(), Refusal>> {
     let heap = rt.alloc();
-    let count = keys.len();
     let touches = touches_of(heap, keys)?;
-    let unpinned = touches.len();
-    let plan = plan_for(heap, &touches)?;
-    println!(rt; "Wednesday: the plan for {FRAMES} frames, by a schedule on {SMALLER}")?;
-    println!(rt; "  {count} touches recorded, {unpinned} of them on sectors that are not pinned")?;
-    println!(rt;
-        "  fewest fetches {}, ceiling {}",
-        plan.fetches, plan.ceiling
-    )?;
+    let line = match plan_for(heap, &touches)? {
+        Ok(line) => line,
+        Err(refusal) => return Ok(Err(refusal)),
+    };
+    print_plan(rt, keys.len(), touches.len(), &line)?;
     let geometry = Geometry::new(FRAMES, 1).unwrap();
     let mut turns = turns_of(heap, keys)?;
     let mut again = turns_of(heap, keys)?;
     let mut image = vec![in heap; 0u8; IMAGE_BYTES]?;
     let mut alone = vec![in heap; 0u8; IMAGE_BYTES]?;
     let outcome = run_cached(geometry, &mut image, &mut turns);
-    println!(rt;
-        "Thursday: {TASKS} tasks take {count} turns over {SECTORS} sectors, sector {PINNED} pinned"
-    )?;
-    print_outcome(rt, plan, outcome)?;
+    print_outcome(rt, &turns, &line, outcome)?;
     let _ = run_alone(&mut alone, &mut again);
     let same = yes_or_no(image.as_slice() == alone.as_slice());
     println!(rt; "Friday: the cache is ended")?;
     println!(rt; "  the image holds the bytes of the same turns on the disk alone: {same}")?;
-    Ok(())
+    Ok(Ok(()))
 }
