@@ -1,7 +1,7 @@
 // What the words of a command line ask for. A number never names a file, so that it is clear which words are numbers.
 use std::fmt;
 
-#[derive(Clone, Copy)]
+#[derive(Clone, Copy, PartialEq, Eq, Debug)]
 pub enum Asked<'a> {
     Help,
     Sheet {
