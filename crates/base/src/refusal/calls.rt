@@ -27,10 +27,12 @@ impl Refusal {
             Refusal::FrameNotFilled => "the frame is not filled",
             Refusal::TraceTooLong => "the trace is longer than 32768 bytes",
             Refusal::FieldCount => "the line has other than five fields",
-            Refusal::NotANumber => "the field is not a number of 1 to 10 digits, or above its largest value",
+            Refusal::NotANumber =>
+                "the field is not a number of 1 to 10 digits, or above its largest value",
             Refusal::BadSize => "the size is not a multiple of 512 from 512 to 65536",
             Refusal::BadOpcode => "the opcode is none of R, r, W and w",
-            Refusal::BadTimeStamp => "the time stamp is not 1 to 10 digits, nor these with a point and 1 to 9 digits behind",
+            Refusal::BadTimeStamp =>
+                "the time stamp is not 1 to 10 digits, nor these with a point and 1 to 9 digits behind",
             Refusal::PastLastSector => "the last sector touched lies above 4294967295",
             Refusal::TooManyTouches => "the touches so far exceed 4096",
             Refusal::ListTooLong => "the list of keys is longer than 4096",
