@@ -1,6 +1,6 @@
 -- What a joined disk means. Assumes nothing.
-use Rattle.std.specs.Prelude.{ℕ, ◌+◌, ◌-◌, min, cond, List, length, nat_lt}
-use Rattle.disk.specs.Meaning.{Meaning, largest_count, serves, replaced}
+use Rattle.std.specs.Prelude.{ℕ, ◌+◌, ◌-◌, min, cond, List, nat_lt}
+use Rattle.disk.specs.Meaning.{Meaning, largest_count}
 use Rattle.disk.specs.declared.disk.Disk as disks
 use Rattle.disk.specs.declared.joined.JoinedDisk.{JoinedDisk}
 
@@ -18,13 +18,21 @@ join_of a b reads writes = record {
   writes = writes;
 }
 
--- a disk with a sector rewritten, where a write is served, and its tallies as they were
-abbrev pub passed_write : Meaning → ℕ → List ℕ → Meaning
-passed_write m sector buffer = record m { bytes = cond (serves m sector (length buffer)) (replaced m.bytes sector buffer) m.bytes }
+-- The two disks after a call on a sector of both: the one that has the sector has served the call, or refused it, by its own
+-- number of the sector, and the other is as it was; where both as one have no such sector, so are they.
+abbrev pub parts_after : (Meaning → ℕ → List ℕ → Meaning) → Meaning × Meaning → ℕ → List ℕ → Meaning × Meaning
+parts_after call (a, b) sector buffer =
+    cond (nat_lt sector (min (a.count + b.count) largest_count))
+    (cond (nat_lt sector a.count) (call a sector buffer, b) (a, call b (sector - a.count) buffer))
+    (a, b)
 
 module _ {A B : Type 0} (a : disks.Ghosts A) (b : disks.Ghosts B) where
   abbrev pub joined : JoinedDisk A B → Meaning
   joined d = join_of (a.meaning d.first) (b.meaning d.second) d.tallies.reads d.tallies.writes
+
+  -- what its two disks mean
+  abbrev pub parts : JoinedDisk A B → Meaning × Meaning
+  parts d = (a.meaning d.first, b.meaning d.second)
 
   -- a joined disk is sound where both its disks are
   pub record BothSound (d : JoinedDisk A B) : Type 0 where

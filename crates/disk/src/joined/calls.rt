@@ -1,7 +1,7 @@
 // What the joined disk does.
 ghost use Rattle.std.specs.Prelude.{◌≡◌, ℕ, ◌<◌, ◌≤◌, length};
-ghost use Rattle.disk.specs.Meaning.{answer, buffer_read};
-ghost use Rattle.disk.specs.Join.{joined, join_of, BothSound, passed_write};
+ghost use Rattle.disk.specs.Meaning.{answer, after_read, buffer_read, after_write};
+ghost use Rattle.disk.specs.Join.{joined, join_of, parts, parts_after, BothSound};
 
 use super::JoinedDisk;
 use crate::disk::{Disk, judge};
@@ -39,7 +39,8 @@ impl<A: Disk, B: Disk> JoinedDisk<A, B> {
         requires inside { sector < (joined A.Disk B.Disk self.old).count }
         ensures kept { BothSound A.Disk B.Disk self.new }
         ensures answers { result ≡ answer (joined A.Disk B.Disk self.old) sector (length buffer.old) }
-        ensures after { joined A.Disk B.Disk self.new ≡ joined A.Disk B.Disk self.old }
+        ensures parts { parts A.Disk B.Disk self.new ≡ parts_after after_read (parts A.Disk B.Disk self.old) sector buffer.old }
+        ensures tallies { self.new.tallies ≡ self.old.tallies }
         ensures fills { buffer.new ≡ buffer_read (joined A.Disk B.Disk self.old) sector buffer.old }
     {
         let first = self.first.count();
@@ -55,7 +56,8 @@ impl<A: Disk, B: Disk> JoinedDisk<A, B> {
         requires inside { sector < (joined A.Disk B.Disk self.old).count }
         ensures kept { BothSound A.Disk B.Disk self.new }
         ensures answers { result ≡ answer (joined A.Disk B.Disk self.old) sector (length buffer.now) }
-        ensures after { joined A.Disk B.Disk self.new ≡ passed_write (joined A.Disk B.Disk self.old) sector buffer.now }
+        ensures parts { parts A.Disk B.Disk self.new ≡ parts_after after_write (parts A.Disk B.Disk self.old) sector buffer.now }
+        ensures tallies { self.new.tallies ≡ self.old.tallies }
     {
         let first = self.first.count();
         if sector >= first {
@@ -78,15 +80,29 @@ impl<A: Disk, B: Disk> Disk for JoinedDisk<A, B> {
         self.tallies.snapshot()
     }
 
-    // Where the sum of the counts is cut, a sector may lie past the end here and yet within the second disk.
-    fn read(&mut self, sector: u32, buffer: &mut [u8]) -> Result<(), Refusal> {
+    // Beside what the trait promises: what each of the two disks is afterwards, tallies too. Where the sum of the counts is cut, a
+    // sector may lie past the end here and yet within the second disk; then neither is called.
+    fn read(&mut self, sector: u32, buffer: &mut [u8]) -> Result<(), Refusal>
+        requires { BothSound A.Disk B.Disk self.old }
+        ensures kept { BothSound A.Disk B.Disk self.new }
+        ensures answers { result ≡ answer (joined A.Disk B.Disk self.old) sector (length buffer.old) }
+        ensures after { joined A.Disk B.Disk self.new ≡ after_read (joined A.Disk B.Disk self.old) sector buffer.old }
+        ensures fills { buffer.new ≡ buffer_read (joined A.Disk B.Disk self.old) sector buffer.old }
+        ensures parts { parts A.Disk B.Disk self.new ≡ parts_after after_read (parts A.Disk B.Disk self.old) sector buffer.old }
+    {
         judge(self.count(), sector, buffer.len())?;
         self.pass_read(sector, buffer)?;
         self.tallies.count_read();
         Ok(())
     }
 
-    fn write(&mut self, sector: u32, buffer: &[u8]) -> Result<(), Refusal> {
+    fn write(&mut self, sector: u32, buffer: &[u8]) -> Result<(), Refusal>
+        requires { BothSound A.Disk B.Disk self.old }
+        ensures kept { BothSound A.Disk B.Disk self.new }
+        ensures answers { result ≡ answer (joined A.Disk B.Disk self.old) sector (length buffer.now) }
+        ensures after { joined A.Disk B.Disk self.new ≡ after_write (joined A.Disk B.Disk self.old) sector buffer.now }
+        ensures parts { parts A.Disk B.Disk self.new ≡ parts_after after_write (parts A.Disk B.Disk self.old) sector buffer.now }
+    {
         judge(self.count(), sector, buffer.len())?;
         self.pass_write(sector, buffer)?;
         self.tallies.count_write();
