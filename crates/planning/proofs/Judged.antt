@@ -1,5 +1,6 @@
 -- How the lists of a replay are judged.
 use Rattle.std.proofs.Common.{◌≡◌, ℕ, ◌<◌, ◌≤◌, ◌&&◌, leb, List, map, length, get_or, Ok, Err, Result, sym, ap, ◌∙◌, inl, inr, arith}
+use Rattle.std.specs.Result.{result_and}
 use Rattle.std.proofs.lemmas.List.{get_or-map}
 use Rattle.std.proofs.lemmas.Bool.{cases_Bool, and_parts, leb-true}
 use Rattle.base.specs.declared.refusal.Refusal.{Refusal}
@@ -36,19 +37,7 @@ lists_enough n slots k held e = elim (cases_Bool (leb n most_touches)) [
 
 module _ {Setting State : Type 0} (r : Rules Setting State) (c : Setting) (k : ℕ) (touches : List ℕ) (slots held : ℕ) where
   pub replayed_refused : (e : Refusal) → Err e ≡ lists_answer (length touches) slots k held → Err e ≡ replayed r c k touches slots held
-  replayed_refused e h = elim (cases_Bool (leb (length touches) most_touches)) [
-    | inl a ↦ elim (cases_Bool (leb (length touches) slots && leb k held)) [
-      | inl b ↦ absurd (never e tt (rw (a, b) at h))
-      | inr b ↦ rw (a, b) (ap Err (same_err _ _ (rw (a, b) at h)))
-    ]
-    | inr a ↦ rw a (ap Err (same_err _ _ (rw a at h)))
-  ]
+  replayed_refused e h = ap (λ q. result_and q (Ok (fetches r (start r c k) touches))) h
 
   pub replayed_accepted : Ok tt ≡ lists_answer (length touches) slots k held → replayed r c k touches slots held ≡ Ok (fetches r (start r c k) touches)
-  replayed_accepted h = elim (cases_Bool (leb (length touches) most_touches)) [
-    | inl a ↦ elim (cases_Bool (leb (length touches) slots && leb k held)) [
-      | inl b ↦ rw (a, b)
-      | inr b ↦ absurd (never _ tt (sym (rw (a, b) at h)))
-    ]
-    | inr a ↦ absurd (never _ tt (sym (rw a at h)))
-  ]
+  replayed_accepted h = sym (ap (λ q. result_and q (Ok (fetches r (start r c k) touches))) h)

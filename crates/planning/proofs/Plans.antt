@@ -1,13 +1,14 @@
 -- How planning judges, and what its numbers come to.
 use Rattle.std.proofs.Common.{◌≡◌, ℕ, ◌+◌, ◌-◌, ◌*◌, ◌^◌, ◌<◌, ◌≤◌, max, cond, ◌&&◌, leb, List, [], ◌∷◌, length, Ok, Err, Result, sym, ap, ◌∙◌, inl, inr, mul-le-mul_right, div-le_self, arith}
+use Rattle.std.specs.Result.{result_and}
 use Rattle.std.proofs.lemmas.Bool.{cases_Bool, and_parts, and_from, leb-true, le-leb, cond_both}
 use Rattle.base.specs.Geometries.{frames_of, pins_of, judged, read_off, built}
 use Rattle.base.specs.Lists.{member}
 use Rattle.base.specs.declared.geometry.Geometry.{Geometry}
 use Rattle.base.specs.declared.refusal.Refusal.{Refusal}
-use Rattle.policy.specs.Machine.{Rules, start, fetches}
+use Rattle.policy.specs.Machine.{Rules}
 use Rattle.planning.specs.Minimum.{min_keys, min_fetches}
-use Rattle.planning.specs.Plan.{Places, room_in, enough, ceiling, plan_of, plan_answer, planned, forecasted}
+use Rattle.planning.specs.Plan.{Places, room_in, enough, ceiling, plan_answer, planning_of, forecast_of, planned, forecasted}
 use Rattle.planning.specs.Replay.{most_touches, lists_answer}
 use Rattle.planning.proofs.Judged.{never, same_ok}
 
@@ -54,55 +55,21 @@ plan_passed n k h held p e = elim (cases_Bool (leb 1 k && leb k 64)) [
   | inr a ↦ absurd (never _ tt (sym (rw a at e)))
 ]
 
--- the plan, where planning passes, and its refusal otherwise
-with_plan : {A B : Type 0} → Result A Refusal → B → Result B Refusal
-with_plan (Ok a) b = Ok b
-with_plan (Err e) b = Err e
+-- what planning hands out, where it refuses and where it passes
+module _ (touches : List ℕ) (k h : ℕ) (p : Places) where
+  pub planned_refused : (e : Refusal) → Err e ≡ plan_answer (length touches) k h h p → planned touches k h p ≡ Err e
+  planned_refused e w = sym (ap (λ q. result_and q (Ok (planning_of touches k h))) w)
 
-planned_is : (touches : List ℕ) (k h : ℕ) (p : Places) → planned touches k h p ≡ with_plan (plan_answer (length touches) k h h p) (plan_of touches k h)
-unfolding with_plan
-planned_is touches k h p = elim (cases_Bool (leb 1 k && leb k 64)) [
-  | inl a ↦ elim (cases_Bool (leb (length touches) most_touches)) [
-    | inl b ↦ elim (cases_Bool (enough (length touches) h p)) [
-      | inl c ↦ elim (cases_Bool (leb 1 h && leb h k)) [ inl d ↦ rw (a, b, c, d) | inr d ↦ rw (a, b, c, d) ]
-      | inr c ↦ rw (a, b, c)
-    ]
-    | inr b ↦ rw (a, b)
-  ]
-  | inr a ↦ rw a
-]
-
-pub planned_refused : (touches : List ℕ) (k h : ℕ) (p : Places) (e : Refusal) → Err e ≡ plan_answer (length touches) k h h p → Err e ≡ planned touches k h p
-unfolding with_plan
-planned_refused touches k h p e w = sym (planned_is touches k h p ∙ ap (λ r. with_plan r (plan_of touches k h)) (sym w))
-
-pub planned_accepted : (touches : List ℕ) (k h : ℕ) (p : Places) → Ok tt ≡ plan_answer (length touches) k h h p → planned touches k h p ≡ Ok (plan_of touches k h)
-unfolding with_plan
-planned_accepted touches k h p w = planned_is touches k h p ∙ ap (λ r. with_plan r (plan_of touches k h)) (sym w)
+  pub planned_accepted : Ok tt ≡ plan_answer (length touches) k h h p → planned touches k h p ≡ Ok (planning_of touches k h)
+  planned_accepted w = sym (ap (λ q. result_and q (Ok (planning_of touches k h))) w)
 
 -- the same of a forecast
 module _ {Setting State : Type 0} (r : Rules Setting State) (c : Setting) (touches : List ℕ) (k h : ℕ) (p : Places) where
-  forecast_is : forecasted r c touches k h p ≡ with_plan (plan_answer (length touches) k h (max k h) p) (record { plan = plan_of touches k h; fetches = fetches r (start r c k) touches })
-  unfolding with_plan
-  forecast_is = elim (cases_Bool (leb 1 k && leb k 64)) [
-    | inl a ↦ elim (cases_Bool (leb (length touches) most_touches)) [
-      | inl b ↦ elim (cases_Bool (enough (length touches) (max k h) p)) [
-        | inl e ↦ elim (cases_Bool (leb 1 h && leb h k)) [ inl d ↦ rw (a, b, e, d) | inr d ↦ rw (a, b, e, d) ]
-        | inr e ↦ rw (a, b, e)
-      ]
-      | inr b ↦ rw (a, b)
-    ]
-    | inr a ↦ rw a
-  ]
+  pub forecast_refused : (e : Refusal) → Err e ≡ plan_answer (length touches) k h (max k h) p → forecasted r c touches k h p ≡ Err e
+  forecast_refused e w = sym (ap (λ q. result_and q (Ok (forecast_of r c touches k h))) w)
 
-  pub forecast_refused : (e : Refusal) → Err e ≡ plan_answer (length touches) k h (max k h) p → Err e ≡ forecasted r c touches k h p
-  unfolding with_plan
-  forecast_refused e w = sym (forecast_is ∙ ap (λ q. with_plan q (record { plan = plan_of touches k h; fetches = fetches r (start r c k) touches })) (sym w))
-
-  pub forecast_accepted : Ok tt ≡ plan_answer (length touches) k h (max k h) p →
-      forecasted r c touches k h p ≡ Ok (record { plan = plan_of touches k h; fetches = fetches r (start r c k) touches })
-  unfolding with_plan
-  forecast_accepted w = forecast_is ∙ ap (λ q. with_plan q (record { plan = plan_of touches k h; fetches = fetches r (start r c k) touches })) (sym w)
+  pub forecast_accepted : Ok tt ≡ plan_answer (length touches) k h (max k h) p → forecasted r c touches k h p ≡ Ok (forecast_of r c touches k h)
+  forecast_accepted w = sym (ap (λ q. result_and q (Ok (forecast_of r c touches k h))) w)
 
 -- with places for both, planning alone passes too
 pub plan_passes : (n k h : ℕ) (p : Places) → Passed n k h (max k h) p → Ok tt ≡ plan_answer n k h h p
@@ -136,7 +103,12 @@ min_most h keys (x ∷ rest) =
     let one : cond {A = ℕ} (member x keys) 0 1 ≤ 1 = cond_both (member x keys) 0 1 (λ n. n ≤ 1) (λ _. omega arith) (λ _. omega arith) in
     omega (arith, min_most h (min_keys h keys x rest) rest)
 
--- so a plan's ceiling fits
+-- so neither a plan's ceiling nor the product in it is too large
+pub product_fits : (k d : ℕ) → k ≤ 64 → d ≤ 4096 → k * d < 2 ^ 64
+product_fits k d few short =
+    let product : k * d ≤ 64 * d = mul-le-mul_right d few in
+    omega (arith, product)
+
 pub ceiling_fits : (k h d : ℕ) → k ≤ 64 → d ≤ 4096 → ceiling k h d < 2 ^ 64
 ceiling_fits k h d few short =
     let product : k * d ≤ 64 * d = mul-le-mul_right d few in

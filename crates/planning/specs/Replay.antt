@@ -1,5 +1,6 @@
 -- What a replay answers. Assumes nothing.
 use Rattle.std.specs.Prelude.{ℕ, cond, ◌&&◌, List, [], length, Ok, Err, Result, nat_le}
+use Rattle.std.specs.Result.{result_and}
 use Rattle.base.specs.declared.refusal.Refusal.{Refusal}
 use Rattle.base.specs.declared.refusal.Refusal.TheVariants.{ListTooLong, TooFewPlaces}
 use Rattle.policy.specs.Machine.{Rules, Machine, start, fetches}
@@ -12,14 +13,11 @@ most_touches = 4096
 abbrev pub idle : {State : Type 0} → State → Machine State
 idle s = record { policy = s; keys = [] }
 
--- how the lists of a replay are judged: the list of touches first, then the places
+-- how the lists of a replay are judged: the length of the list of touches first, then the places
 abbrev pub lists_answer : ℕ → ℕ → ℕ → ℕ → Result (Unit {0}) Refusal
 lists_answer touches slots k held =
     cond (nat_le touches most_touches) (cond (nat_le touches slots && nat_le k held) (Ok tt) (Err TooFewPlaces)) (Err ListTooLong)
 
--- A replay on k frames with so many slots and held-key places: the list's length is judged first, then the places.
+-- a replay on k frames, in lists with so many slots and held-key places
 abbrev pub replayed : {Setting State : Type 0} → Rules Setting State → Setting → ℕ → List ℕ → ℕ → ℕ → Result ℕ Refusal
-replayed r c k touches slots held =
-    cond (nat_le (length touches) most_touches)
-    (cond (nat_le (length touches) slots && nat_le k held) (Ok (fetches r (start r c k) touches)) (Err TooFewPlaces))
-    (Err ListTooLong)
+replayed r c k touches slots held = result_and (lists_answer (length touches) slots k held) (Ok (fetches r (start r c k) touches))

@@ -12,5 +12,5 @@ mod replay;
 
 pub use forecast::{Forecast, forecast_touches};
 pub use lists::Lists;
-pub use plan::{Plan, ceiling, plan_touches};
+pub use plan::{Plan, plan_touches};
 pub use replay::replay as replay_keys;

@@ -2,7 +2,7 @@
 mod calls;
 
 pub(crate) use calls::check_plan;
-pub use calls::{ceiling, plan_touches};
+pub use calls::plan_touches;
 
 #[derive(Clone, Copy, PartialEq, Eq, Debug)]
 pub struct Plan {

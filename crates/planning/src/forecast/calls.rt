@@ -1,10 +1,9 @@
 // Plan and replay together.
 ghost use Rattle.std.specs.Prelude.{◌≡◌, ℕ, ◌<◌, ◌≤◌, false, [], ◌++◌, map, length, take, drop};
-ghost use Rattle.std.specs.Prelude.{is_ok, IfOk, if◌then◌else◌};
+ghost use Rattle.std.specs.Prelude.{is_ok, IfOk};
 ghost use Rattle.planning.specs.Bounds.{Competitive, Bounded};
-ghost use Rattle.planning.specs.Minimum.{min_serves};
 ghost use Rattle.planning.specs.Lists.{places, Unchanged, SameLists};
-ghost use Rattle.planning.specs.Plan.{forecasted};
+ghost use Rattle.planning.specs.Plan.{forecasted, answer_of, serving_after};
 
 use super::Forecast;
 use crate::lists::Lists;
@@ -24,10 +23,10 @@ pub fn forecast_touches<P: Policy + Drop, K: Key>(
 ) -> Result<Forecast, Refusal>
 where
     P::Setting: Drop,
-    ensures answer { result ≡ forecasted P.Policy.rules setting (map K.Key.code keys.now) frames smaller (places lists.old) }
-    ensures serving { lists.new.serving.now ≡ (if is_ok result
-        then min_serves smaller [] (map K.Key.code keys.now) ++ drop (length keys.now) lists.old.serving.now
-        else lists.old.serving.now) }
+    ensures answer { result ≡ answer_of
+        (forecasted P.Policy.rules setting (map K.Key.code keys.now) frames smaller (places lists.old)) }
+    ensures serving { lists.new.serving.now ≡ serving_after
+        (forecasted P.Policy.rules setting (map K.Key.code keys.now) frames smaller (places lists.old)) lists.old.serving.now }
     ensures bounded { IfOk result (λ f.
         Bounded frames smaller (map K.Key.code keys.now) (take (length keys.now) lists.new.serving.now)
         f.plan.fetches f.plan.ceiling f.fetches) }

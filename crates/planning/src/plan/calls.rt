@@ -1,11 +1,11 @@
 // Planning: judges its numbers and lists, then runs MIN on the smaller number of frames.
 ghost use Rattle.std.specs.Prelude.{◌≡◌, ℕ, ◌<◌, ◌≤◌, false, [], ◌++◌, map, length, take, drop};
-ghost use Rattle.std.specs.Prelude.{is_ok, IfOk, if◌then◌else◌};
+ghost use Rattle.std.specs.Prelude.{is_ok, IfOk};
 ghost use Rattle.planning.specs.Bounds.{Optimal, ServingsAreSchedules};
 ghost use Rattle.planning.specs.Chosen.{NextTouches};
 ghost use Rattle.planning.specs.Minimum.{min_serves, min_fetches};
 ghost use Rattle.planning.specs.Lists.{places, Unchanged, SameLists};
-ghost use Rattle.planning.specs.Plan.{ceiling as ceiling_at, planned, plan_answer};
+ghost use Rattle.planning.specs.Plan.{ceiling as ceiling_at, plan_answer, planned, answer_of, serving_after};
 
 use super::Plan;
 use crate::held::HeldKeys;
@@ -15,13 +15,13 @@ use crate::next::next_touches;
 use base::{Key, MAX_FRAMES, MAX_TOUCHES, Refusal};
 use index::Slot;
 
-// The ceiling on the fetches of so many frames, from the fetches of a schedule on a smaller number of frames. It is computed in 128
-// bits, in which nothing wraps.
-pub fn ceiling(frames: u64, smaller: u64, fetches: u64) -> u128
+// The ceiling on the fetches of so many frames, from the fetches of a schedule on a smaller number of frames.
+#[tactic(auto, using(crate::proofs::Plans::product_fits, crate::proofs::Plans::ceiling_fits))]
+fn ceiling(frames: u64, smaller: u64, fetches: u64) -> u64
+    requires { (smaller ≤ frames) × ((frames ≤ 64) × (fetches ≤ 4096)) }
     ensures { result ≡ ceiling_at frames smaller fetches }
 {
-    let width = u128::from(frames.saturating_sub(smaller)) + 1;
-    u128::from(frames) * u128::from(fetches) / width + u128::from(frames)
+    frames * fetches / (frames - smaller + 1) + frames
 }
 
 // Refuses, in this order: the frames, the list's length, lists with too few places, the smaller number of frames.
@@ -77,10 +77,9 @@ pub fn plan_touches<K: Key>(
     smaller: usize,
     lists: &mut Lists<'_, K>,
 ) -> Result<Plan, Refusal>
-    ensures answer { result ≡ planned (map K.Key.code keys.now) frames smaller (places lists.old) }
-    ensures serving { lists.new.serving.now ≡ (if is_ok result
-        then min_serves smaller [] (map K.Key.code keys.now) ++ drop (length keys.now) lists.old.serving.now
-        else lists.old.serving.now) }
+    ensures answer { result ≡ answer_of (planned (map K.Key.code keys.now) frames smaller (places lists.old)) }
+    ensures serving { lists.new.serving.now
+        ≡ serving_after (planned (map K.Key.code keys.now) frames smaller (places lists.old)) lists.old.serving.now }
     ensures optimal { IfOk result (λ p.
         Optimal smaller (map K.Key.code keys.now) (take (length keys.now) lists.new.serving.now) p.fetches) }
     ensures schedules { ServingsAreSchedules }
@@ -91,6 +90,6 @@ pub fn plan_touches<K: Key>(
     next_touches(keys, lists.slots, lists.next);
     let next = &mut *lists.next;
     let fetches = run_min(keys, smaller, lists.slots, next, lists.held, lists.serving);
-    let ceiling = ceiling(frames as u64, smaller as u64, fetches) as u64;
+    let ceiling = ceiling(frames as u64, smaller as u64, fetches);
     Ok(Plan { ceiling, fetches })
 }

@@ -1,7 +1,7 @@
-use Rattle.std.proofs.Common.{◌≡◌, ℕ, ◌+◌, ◌-◌, ◌*◌, ◌≤◌, max, true, List, [], map, length, is_ok, Ok, Err, sym, refl, ap, ◌∙◌, subst, arith}
+use Rattle.std.proofs.Common.{◌≡◌, ℕ, ◌+◌, ◌-◌, ◌*◌, ◌≤◌, max, List, [], map, length, Ok, Err, sym, refl, ap, ◌∙◌, subst, arith}
 use Rattle.std.proofs.lemmas.List.{length-map}
 use Rattle.std.proofs.lemmas.Result.{err_from_is_err_and, IfOk-from_err, IfOk-at_ok}
-use Rattle.std.proofs.lemmas.Bool.{true≢false, cond-false, cond-true}
+use Rattle.std.proofs.lemmas.Bool.{true≢false}
 use Rattle.policy.specs.Machine.{Rules, start, fetches}
 use Rattle.policy.specs.Law.{Conservative}
 use Rattle.planning.specs.declared.plan.Plan.{Plan}
@@ -10,7 +10,7 @@ use Rattle.planning.specs.Bounds.{Optimal, Bounded}
 use Rattle.planning.specs.Minimum.{min_fetches}
 use Rattle.planning.specs.Schedules.{Demand}
 use Rattle.planning.specs.Lists.{places}
-use Rattle.planning.specs.Plan.{Places, plan_of, plan_answer}
+use Rattle.planning.specs.Plan.{Places, plan_of, plan_answer, answer_of, serving_after}
 use Rattle.planning.specs.Replay.{replayed}
 use Rattle.planning.proofs.Ceilings.{competitive, under_ceiling}
 use Rattle.planning.proofs.Judged.{never, same_ok, replayed_accepted}
@@ -56,9 +56,10 @@ returns-in_err-check_plan g c =
     let h = c.args.smaller in
     let p = err_from_is_err_and c.from_residual.result c.from_residual.ensures.1 in
     let judged = c.in_err-check_plan.ensures ∙ judged_by code keys k h _ lent c.max.ensures in
+    let refused = forecast_refused g.P.Policy.rules c.args.setting touches k h lent _ judged in
     record {
-      answer = p.1 ∙ ap Err p.2 ∙ forecast_refused g.P.Policy.rules c.args.setting touches k h lent _ judged;
-      serving = sym (cond-false _ _ _ (ap is_ok p.1));
+      answer = p.1 ∙ ap Err p.2 ∙ sym (ap answer_of refused);
+      serving = sym (ap (λ q. serving_after q c.args.lists.now.serving.now) refused);
       bounded = IfOk-from_err _ _ c.from_residual.ensures.0;
       competitive = competitive g.P.Policy.rules g.met.P.Policy.conservative;
       refused = λ _. record { slots = refl; next = refl; held = refl };
@@ -74,7 +75,7 @@ returns-in_err-plan g c =
     let k = c.args.frames in
     let h = c.args.smaller in
     let p = passed_by code keys k h _ lent c.max.ensures c.in_ok-check_plan.ensures in
-    let planned' = c.plan_touches.ensures.answer ∙ planned_accepted touches k h lent (plan_passes (length touches) k h lent p) in
+    let planned' = c.plan_touches.ensures.answer ∙ ap answer_of (planned_accepted touches k h lent (plan_passes (length touches) k h lent p)) in
     absurd (never _ (plan_of touches k h) (sym c.in_err-plan.was ∙ planned'))
 
 pub returns-in_err-geometry : goal.returns-in_err-geometry
@@ -113,17 +114,19 @@ returns g c =
     let same = c.plan_touches.ensures.same in
     let long = same.long in
     let p = passed_by code keys k h _ lent c.max.ensures c.in_ok-check_plan.ensures in
-    let planned' = c.plan_touches.ensures.answer ∙ planned_accepted touches k h lent (plan_passes (length touches) k h lent p) in
+    let planned' = c.plan_touches.ensures.answer ∙ ap answer_of (planned_accepted touches k h lent (plan_passes (length touches) k h lent p)) in
     let geometry = geometry_frames k _ _ p.frames.0 p.frames.1 c.new.ensures c.in_ok-geometry.was in
     let replayed' = c.replay.ensures.answer ∙
     replay_by g.P.Policy.rules c.args.setting touches k h _ _ _ lent p geometry (ap (λ (p : Places). p.slots) c.plan_touches.ensures.same.long) (ap (λ (p : Places). p.held) c.plan_touches.ensures.same.long) in
     let plan = same_ok _ _ (sym c.in_ok-plan.was ∙ planned') in
     let count = same_ok _ _ (sym c.in_ok-fetches.was ∙ replayed') in
     let judged = c.in_ok-check_plan.ensures ∙ judged_by code keys k h _ lent c.max.ensures in
-    let accepted : is_ok c.plan_touches.result ≡ true = ap is_ok c.in_ok-plan.was in
+    let accepted = forecast_accepted g.P.Policy.rules c.args.setting touches k h lent judged in
+    let old = c.args.lists.now.serving.now in
     record {
-      answer = ap Ok (forecast_same _ _ _ _ plan count) ∙ sym (forecast_accepted g.P.Policy.rules c.args.setting touches k h lent judged);
-      serving = c.plan_touches.ensures.serving ∙ cond-true _ _ _ accepted;
+      answer = ap Ok (forecast_same _ _ _ _ plan count) ∙ sym (ap answer_of accepted);
+      serving = c.plan_touches.ensures.serving ∙ ap (λ q. serving_after q old) (planned_accepted touches k h lent (plan_passes (length touches) k h lent p)) ∙
+          sym (ap (λ q. serving_after q old) accepted);
       bounded = bounded g.P.Policy.rules g.met.P.Policy.conservative c.args.setting touches _ k h _ _ p.smaller.0 p.smaller.1 plan count
           (IfOk-at_ok _ c.in_ok-plan.was c.plan_touches.ensures.optimal);
       competitive = competitive g.P.Policy.rules g.met.P.Policy.conservative;

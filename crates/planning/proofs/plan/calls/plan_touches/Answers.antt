@@ -1,15 +1,15 @@
-use Rattle.std.proofs.Common.{◌≡◌, ℕ, suc, ◌≤◌, false, List, [], ◌∷◌, map, length, take, drop, is_ok, Ok, Err, sym, refl, ap, ◌∙◌, subst, arith}
+use Rattle.std.proofs.Common.{◌≡◌, ℕ, suc, ◌≤◌, List, [], ◌∷◌, ◌++◌, map, length, take, drop, Ok, Err, sym, refl, ap, ◌∙◌, subst, arith}
 use Rattle.std.proofs.lemmas.List.{length-map, take_at}
 use Rattle.std.proofs.lemmas.Result.{err_from_is_err_and, IfOk-from_err}
-use Rattle.std.proofs.lemmas.Bool.{true≢false, cond-false}
+use Rattle.std.proofs.lemmas.Bool.{true≢false}
 use Rattle.planning.specs.Bounds.{Optimal}
 use Rattle.planning.specs.Minimum.{min_keys, min_serves}
 use Rattle.planning.specs.declared.plan.Plan.{Plan}
 use Rattle.planning.specs.Lists.{places}
-use Rattle.planning.specs.Plan.{ceiling, plan_answer}
+use Rattle.planning.specs.Plan.{ceiling, plan_answer, answer_of, serving_after}
 use Rattle.planning.proofs.Ceilings.{min_optimal}
 use Rattle.planning.proofs.Servings.{served}
-use Rattle.planning.proofs.Plans.{same_places, plan_passed, planned_refused, planned_accepted, min_most, ceiling_fits}
+use Rattle.planning.proofs.Plans.{same_places, plan_passed, planned_refused, planned_accepted, min_most}
 use Rattle.planning.proofs.plan.calls.plan_touches.Goals as goal
 
 -- a list of serving frames has one for each touch
@@ -29,10 +29,10 @@ returns-in_err-check_plan g c =
     let h = c.args.smaller in
     let p = err_from_is_err_and c.from_residual.result c.from_residual.ensures.1 in
     let judged = c.in_err-check_plan.ensures ∙ ap (λ n. plan_answer n k h h lent) (sym (length-map c.args.keys.now g.K.Key.code)) in
-    let no-plan : is_ok c.from_residual.result ≡ false = ap is_ok p.1 in
+    let refused = planned_refused touches k h lent _ judged in
     record {
-      answer = p.1 ∙ ap Err p.2 ∙ planned_refused touches k h lent _ judged;
-      serving = sym (cond-false _ _ _ no-plan);
+      answer = p.1 ∙ ap Err p.2 ∙ sym (ap answer_of refused);
+      serving = sym (ap (λ q. serving_after q c.args.lists.now.serving.now) refused);
       optimal = IfOk-from_err _ _ c.from_residual.ensures.0;
       schedules = served;
       refused = λ _. record { slots = refl; next = refl; held = refl };
@@ -48,12 +48,12 @@ run_min-fetches-requires g c =
       next = c.next_touches.ensures;
     }
 
-pub overflow_cast-ceiling : goal.overflow_cast-ceiling
-overflow_cast-ceiling g c =
+pub ceiling-ceiling-requires : goal.ceiling-ceiling-requires
+ceiling-ceiling-requires g c =
     let p = plan_passed (length c.args.keys.now) c.args.frames c.args.smaller c.args.smaller (places c.args.lists.now) c.in_ok-check_plan.ensures in
     let touches = map g.K.Key.code c.args.keys.now in
     let few : c.run_min-fetches.result ≤ 4096 = omega (arith, c.run_min-fetches.ensures.answer, min_most c.args.smaller [] touches, length-map c.args.keys.now g.K.Key.code, p.few) in
-    omega (arith, c.ceiling-ceiling.ensures, ceiling_fits c.args.frames c.args.smaller c.run_min-fetches.result p.frames.1 few)
+    (p.smaller.1, (p.frames.1, few))
 
 pub returns : goal.returns
 returns g c =
@@ -65,12 +65,15 @@ returns g c =
     let p = plan_passed (length keys) k h h lent c.in_ok-check_plan.ensures in
     let d = c.run_min-fetches.ensures.answer in
     let judged = c.in_ok-check_plan.ensures ∙ ap (λ n. plan_answer n k h h lent) (sym (length-map keys g.K.Key.code)) in
+    let accepted = planned_accepted touches k h lent judged in
+    let old = c.args.lists.now.serving.now in
     let serves = min_serves h [] touches in
+    let long : length serves ≡ length keys = serves_length h [] touches ∙ length-map keys g.K.Key.code in
     let front : take (length keys) c.run_min-fetches.new.serving ≡ serves =
-    ap (take (length keys)) c.run_min-fetches.ensures.serving ∙ take_at serves (drop (length keys) c.args.lists.now.serving.now) (length keys) (serves_length h [] touches ∙ length-map keys g.K.Key.code) in
+    ap (take (length keys)) c.run_min-fetches.ensures.serving ∙ take_at serves (drop (length keys) old) (length keys) long in
     record {
-      answer = ap Ok (plan_same _ _ _ k h c.ceiling-ceiling.ensures d) ∙ sym (planned_accepted touches k h lent judged);
-      serving = c.run_min-fetches.ensures.serving;
+      answer = ap Ok (plan_same _ _ _ k h c.ceiling-ceiling.ensures d) ∙ sym (ap answer_of accepted);
+      serving = c.run_min-fetches.ensures.serving ∙ ap (λ n. serves ++ drop n old) (sym long) ∙ sym (ap (λ q. serving_after q old) accepted);
       optimal = subst (λ (w : List ℕ). Optimal h touches w c.run_min-fetches.result) (sym front) (subst (Optimal h touches serves) (sym d) (min_optimal h p.smaller.0 touches));
       schedules = served;
       refused = λ e. absurd (true≢false e);
