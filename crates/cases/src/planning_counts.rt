@@ -1,21 +1,12 @@
-// The fewest fetches, the ceiling and forecasts, and what a trace costs.
+// The fewest fetches and forecasts, and what a trace costs.
 use crate::anomaly_touches;
 use crate::helpers::*;
 use base::{Key, Refusal, Sector, VolumeKey};
 use index::Slot;
-use planning::{Forecast, Lists, Plan, ceiling, forecast_touches, plan_touches};
+use planning::{Forecast, Lists, Plan, forecast_touches, plan_touches};
 use policy::{Clock, Fifo, Lru, Policy};
 use std::test::Fail;
 use trace::read_trace;
-
-#[test]
-fn ceilings_are_whole_parts(rt: HostRuntime) {
-    assert_eq!(rt; ceiling(64, 32, 1000), 2003);
-    assert_eq!(rt; ceiling(2, 2, 3), 8);
-    assert_eq!(rt; ceiling(3, 2, 5), 10);
-    assert_eq!(rt; ceiling(4, 2, 0), 4);
-    assert_eq!(rt; ceiling(u64::MAX, 1, u64::MAX), 36893488147419103230);
-}
 
 // The fewest fetches on so many frames; the serving frames are written.
 fn fewest_of<K: Key>(
