@@ -6,7 +6,7 @@ use Rattle.policy.specs.Law.{Conservative}
 use Rattle.planning.specs.Schedules.{Demand}
 use Rattle.planning.specs.Minimum.{min_fetches}
 use Rattle.planning.specs.Replay.{most_touches}
-use Rattle.planning.specs.Plan.{Places, enough, plan_of, planned}
+use Rattle.planning.specs.Plan.{Places, enough, planning_of, planned}
 use Rattle.planning.proofs.Ceilings.{min_optimal, competitive, under_ceiling}
 use Rattle.cache.specs.View.{View}
 use Rattle.cache.specs.Events.{Event}
@@ -14,7 +14,7 @@ use Rattle.cache.specs.Promise.{Origin, Taken, Promise, touches, machine_fetches
 
 -- planning in lists with enough places is not refused
 plan_accepted : (ts : List ℕ) (k h : ℕ) (places : Places) → 1 ≤ k → k ≤ 64 → length ts ≤ most_touches → 1 ≤ h → h ≤ k → enough (length ts) h places ≡ true →
-    planned ts k h places ≡ Ok (plan_of ts k h)
+    planned ts k h places ≡ Ok (planning_of ts k h)
 plan_accepted ts k h places some most few one fits room = rw (le-leb 1 k some, le-leb k 64 most, le-leb (length ts) most_touches few, room, le-leb 1 h one, le-leb h k fits)
 
 module _ {Setting State : Type 0} (r : Rules Setting State) (law : Conservative r) where
@@ -40,7 +40,7 @@ module _ {Setting State : Type 0} (r : Rules Setting State) (law : Conservative 
         plans = λ few h one fits places room.
             let best = min_optimal h one ts in
             record {
-              plan = plan_of ts o.frames h;
+              planning = planning_of ts o.frames h;
               accepted = plan_accepted ts o.frames h places t.some t.most few one fits room;
               optimal = best;
               ceiling_is = refl;

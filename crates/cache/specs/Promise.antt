@@ -4,10 +4,9 @@ use Rattle.disk.specs.Meaning.{Meaning, largest_tally}
 use Rattle.policy.specs.Machine.{Rules, start, touched, fetches}
 use Rattle.planning.specs.declared.plan.Plan.{Plan}
 use Rattle.planning.specs.Schedules.{Demand}
-use Rattle.planning.specs.Minimum.{min_serves}
 use Rattle.planning.specs.Bounds.{Optimal}
 use Rattle.planning.specs.Replay.{most_touches}
-use Rattle.planning.specs.Plan.{Places, enough, planned, ceiling}
+use Rattle.planning.specs.Plan.{Places, enough, Planning, planned, ceiling}
 use Rattle.cache.specs.Places.{pins}
 use Rattle.cache.specs.View.{View, seen, machine}
 use Rattle.cache.specs.Events.{Event, Each, AsAlone, Asks, bytes_after, touches_of, below_after, fetched_after}
@@ -19,13 +18,14 @@ pub record Origin (Setting : Type 0) : Type 0 where
   pub frames : ℕ
   pub setting : Setting
 
--- Planning on some touches is not refused, its schedule on h frames is one of the fewest fetches, and F is at most its ceiling.
+-- Planning on some touches is not refused; the serving frames that it hands out are a schedule on h frames of the fewest fetches, which
+-- it answers, with the ceiling that they give; and F is at most that ceiling.
 pub record Planned (touches : List ℕ) (k h : ℕ) (places : Places) (F : ℕ) : Type 0 where
-  pub plan : Plan
-  pub accepted : planned touches k h places ≡ Ok plan
-  pub optimal : Optimal h touches (min_serves h [] touches) plan.fetches
-  pub ceiling_is : plan.ceiling ≡ ceiling k h plan.fetches
-  pub most : F ≤ plan.ceiling
+  pub planning : Planning Plan
+  pub accepted : planned touches k h places ≡ Ok planning
+  pub optimal : Optimal h touches planning.serving planning.answer.fetches
+  pub ceiling_is : planning.answer.ceiling ≡ ceiling k h planning.answer.fetches
+  pub most : F ≤ planning.answer.ceiling
 
 -- the touches of some turns
 abbrev pub touches : {Setting : Type 0} → Origin Setting → List Event → List ℕ
