@@ -1,5 +1,5 @@
 -- How planning judges, and what its numbers come to.
-use Rattle.std.proofs.Common.{◌≡◌, ℕ, ◌+◌, ◌-◌, ◌*◌, ◌^◌, ◌<◌, ◌≤◌, max, cond, ◌&&◌, leb, List, [], ◌∷◌, length, Ok, Err, Result, sym, ap, ◌∙◌, inl, inr, mul-le-mul_right, div-le_self, arith}
+use Rattle.std.proofs.Common.{◌≡◌, ℕ, suc, ◌+◌, ◌-◌, ◌*◌, ◌^◌, ◌<◌, ◌≤◌, max, cond, ◌&&◌, leb, List, [], ◌∷◌, ◌++◌, length, drop, Ok, Err, Result, sym, refl, ap, ◌∙◌, inl, inr, mul-le-mul_right, div-le_self, arith}
 use Rattle.std.specs.Result.{result_and}
 use Rattle.std.proofs.lemmas.Bool.{cases_Bool, and_parts, and_from, leb-true, le-leb, cond_both}
 use Rattle.base.specs.Geometries.{frames_of, pins_of, judged, read_off, built}
@@ -7,8 +7,9 @@ use Rattle.base.specs.Lists.{member}
 use Rattle.base.specs.declared.geometry.Geometry.{Geometry}
 use Rattle.base.specs.declared.refusal.Refusal.{Refusal}
 use Rattle.policy.specs.Machine.{Rules}
-use Rattle.planning.specs.Minimum.{min_keys, min_fetches}
-use Rattle.planning.specs.Plan.{Places, room_in, enough, ceiling, plan_answer, planning_of, forecast_of, planned, forecasted}
+use Rattle.planning.specs.declared.plan.Plan.{Plan}
+use Rattle.planning.specs.Minimum.{min_keys, min_serves, min_fetches}
+use Rattle.planning.specs.Plan.{Places, room_in, enough, ceiling, plan_answer, planning_of, forecast_of, planned, forecasted, answer_of, serving_after}
 use Rattle.planning.specs.Replay.{most_touches, lists_answer}
 use Rattle.planning.proofs.Judged.{never, same_ok}
 
@@ -95,6 +96,21 @@ geometry_frames k r g some most b e =
 
 pub geometry_accepted : (k : ℕ) (r : Result Geometry Refusal) (e : Refusal) → 1 ≤ k → k ≤ 64 → built k 0 r → r ≡ Err e → ⊥
 geometry_accepted k r e some most b w = never e (k, 0) (sym (ap read_off w) ∙ b ∙ geometry_made k some most)
+
+-- MIN's list has a frame for each touch
+pub serves_length : (h : ℕ) (keys touches : List ℕ) → length (min_serves h keys touches) ≡ length touches
+serves_length h keys [] = refl
+serves_length h keys (x ∷ rest) = ap suc (serves_length h (min_keys h keys x rest) rest)
+
+-- where planning answers a plan, they stand at the front of the serving list
+served_by : (touches : List ℕ) (k h : ℕ) (judged : Result (Unit {0}) Refusal) (a : Plan) (old : List ℕ) → Ok a ≡ answer_of (result_and judged (Ok (planning_of touches k h))) →
+    serving_after (result_and judged (Ok (planning_of touches k h))) old ≡ min_serves h [] touches ++ drop (length touches) old
+served_by touches k h (Ok tt) a old e = ap (λ n. min_serves h [] touches ++ drop n old) (serves_length h [] touches)
+served_by touches k h (Err r) a old e = absurd (never r a (sym e))
+
+pub planned_serving : (touches : List ℕ) (k h : ℕ) (p : Places) (a : Plan) (old : List ℕ) → Ok a ≡ answer_of (planned touches k h p) →
+    serving_after (planned touches k h p) old ≡ min_serves h [] touches ++ drop (length touches) old
+planned_serving touches k h p = served_by touches k h (plan_answer (length touches) k h h p)
 
 -- MIN fetches at most once a touch
 pub min_most : (h : ℕ) (keys touches : List ℕ) → min_fetches h keys touches ≤ length touches

@@ -1,21 +1,16 @@
-use Rattle.std.proofs.Common.{◌≡◌, ℕ, suc, ◌≤◌, List, [], ◌∷◌, ◌++◌, map, length, take, drop, Ok, Err, sym, refl, ap, ◌∙◌, subst, arith}
+use Rattle.std.proofs.Common.{◌≡◌, ℕ, ◌≤◌, List, [], ◌++◌, map, length, take, drop, Ok, Err, sym, refl, ap, ◌∙◌, subst, arith}
 use Rattle.std.proofs.lemmas.List.{length-map, take_at}
 use Rattle.std.proofs.lemmas.Result.{err_from_is_err_and, IfOk-from_err}
 use Rattle.std.proofs.lemmas.Bool.{true≢false}
 use Rattle.planning.specs.Bounds.{Optimal}
-use Rattle.planning.specs.Minimum.{min_keys, min_serves}
+use Rattle.planning.specs.Minimum.{min_serves}
 use Rattle.planning.specs.declared.plan.Plan.{Plan}
 use Rattle.planning.specs.Lists.{places}
 use Rattle.planning.specs.Plan.{ceiling, plan_answer, answer_of, serving_after}
 use Rattle.planning.proofs.Ceilings.{min_optimal}
 use Rattle.planning.proofs.Servings.{served}
-use Rattle.planning.proofs.Plans.{same_places, plan_passed, planned_refused, planned_accepted, min_most}
+use Rattle.planning.proofs.Plans.{same_places, plan_passed, planned_refused, planned_accepted, serves_length, min_most}
 use Rattle.planning.proofs.plan.calls.plan_touches.Goals as goal
-
--- a list of serving frames has one for each touch
-serves_length : (h : ℕ) (keys touches : List ℕ) → length (min_serves h keys touches) ≡ length touches
-serves_length h keys [] = refl
-serves_length h keys (x ∷ rest) = ap suc (serves_length h (min_keys h keys x rest) rest)
 
 -- a plan from the fetches that it counts
 plan_same : (c d e k h : ℕ) → c ≡ ceiling k h d → d ≡ e → ◌≡◌ {A = Plan} (record { ceiling = c; fetches = d }) (record { ceiling = ceiling k h e; fetches = e })
