@@ -1,11 +1,11 @@
 -- What a sheet shows of a list of touches. Assumes nothing.
-use Rattle.std.specs.Prelude.{ℕ, ◌≤◌, min, cond, List, [], ◌∷◌, ◌++◌, map, length, Ok, Err, Result, nat_le, decimal}
+use Rattle.std.specs.Prelude.{ℕ, ◌≤◌, min, cond, List, [], ◌∷◌, ◌++◌, map, length, drop, Ok, Err, Result, nat_le, decimal}
 use Rattle.base.specs.declared.refusal.Refusal.TheVariants as refusal
 use Rattle.policy.specs.Machine.{start, fetches}
 use Rattle.policy.specs.Lru.{lru_rules}
 use Rattle.policy.specs.Fifo.{fifo_rules}
 use Rattle.policy.specs.Clock.{clock_rules}
-use Rattle.planning.specs.Minimum.{min_fetches}
+use Rattle.planning.specs.Minimum.{min_serves, min_fetches}
 use Rattle.planning.specs.Lists.{places}
 use Rattle.planning.specs.Plan.{Places, room_in}
 use Rattle.planning.specs.declared.lists.Lists.{Lists}
@@ -64,3 +64,12 @@ touches_for text l = and_then (judged text (room l))
 -- the sheet: a row for each number of frames, or the fault
 abbrev pub sheet_of : List ℕ → Lent → Result (List Row) ReplayFault
 sheet_of text l = and_then (touches_for text l) (λ touches. Ok (map (row_of touches) frame_counts))
+
+-- the serving list after MIN on h frames has served some touches: a frame for each, and behind them what stood there
+abbrev pub served : ℕ → List ℕ → List ℕ → List ℕ
+served h touches old = min_serves h [] touches ++ drop (length touches) old
+
+-- the serving list after a sheet, of which the row of 64 frames is the last; after a fault what it was
+abbrev pub serving_of : Result (List ℕ) ReplayFault → List ℕ → List ℕ
+serving_of (Ok touches) old = served 64 touches old
+serving_of (Err fault) old = old

@@ -3,7 +3,7 @@ ghost use Rattle.std.specs.Prelude.{◌≡◌, false, map, length, is_ok};
 ghost use Rattle.base.specs.Keys.{volume_code};
 ghost use Rattle.trace.specs.Touches.{Written};
 ghost use Rattle.planning.specs.Lists.{Unchanged, SameLists};
-ghost use Rattle.sheet.specs.Rows.{row_of, frame_counts, Roomy, lent, touches_for, sheet_of};
+ghost use Rattle.sheet.specs.Rows.{row_of, frame_counts, Roomy, lent, touches_for, sheet_of, served, serving_of};
 
 use crate::row::{Row, row_of_keys};
 use base::{Geometry, MAX_FRAMES, Refusal, VolumeKey};
@@ -16,6 +16,7 @@ pub const FRAME_COUNTS: [u8; 6] = [1, 2, 3, 4, 8, 64];
 fn rows_of_keys(keys: &[VolumeKey], lists: &mut Lists<'_, VolumeKey>) -> [Row; 6]
     requires { Roomy (length keys.now) lists.old }
     ensures rows { result ≡ map (row_of (map volume_code keys.now)) frame_counts }
+    ensures serving { lists.new.serving.now ≡ served 64 (map volume_code keys.now) lists.old.serving.now }
     ensures same { SameLists lists.old lists.new }
 {
     let mut rows = FRAME_COUNTS.map(|frames| Row {
@@ -41,8 +42,9 @@ pub fn sheet_of_trace(
 ) -> Result<[Row; 6], ReplayFault>
     ensures answer { result ≡ sheet_of text.now (lent keys.old lists.old) }
     ensures keys { Written (touches_for text.now (lent keys.old lists.old)) keys.old keys.new }
+    ensures serving { lists.new.serving.now ≡ serving_of (touches_for text.now (lent keys.old lists.old)) lists.old.serving.now }
     ensures same { SameLists lists.old lists.new }
-    ensures refused { is_ok result ≡ false → Unchanged lists.old lists.new × (lists.new.serving.now ≡ lists.old.serving.now) }
+    ensures refused { is_ok result ≡ false → Unchanged lists.old lists.new }
 {
     judge_trace(text, keys.len().min(lists.room()))?;
     if lists.held.len() < MAX_FRAMES {

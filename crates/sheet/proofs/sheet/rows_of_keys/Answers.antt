@@ -5,7 +5,7 @@ use Rattle.base.specs.Keys.{volume_code}
 use Rattle.planning.proofs.Plans.{geometry_frames}
 use Rattle.sheet.specs.declared.row.Row.{Row}
 use Rattle.sheet.specs.Rows.{row_of, frame_counts}
-use Rattle.sheet.proofs.Sheets.{counts_within, geometry_ok, roomy_long, same_lists}
+use Rattle.sheet.proofs.Sheets.{counts_within, geometry_ok, roomy_long, same_lists, served_rows, served_more}
 use Rattle.sheet.proofs.sheet.rows_of_keys.Goals as goal
 
 abbrev frames_in : Row → ℕ
@@ -56,7 +56,10 @@ loop-row-preserved c =
         map-set_same frames_in rows i c.row_of_keys.result _ (ap frames_in row ∙ sym f) ∙ q.1.0,
         (
           rows_more touches rows i c.row_of_keys.result c.loop-row-test.true (six rows q.1.0) row q.1.1.0,
-          same_lists _ _ _ q.1.1.1 c.row_of_keys.ensures.same,
+          (
+            served_more touches i _ c.args.lists.now.serving.now _ _ (made ∙ f) q.1.1.1.0 c.row_of_keys.ensures.serving,
+            same_lists _ _ _ q.1.1.1.1 c.row_of_keys.ensures.same,
+          ),
         ),
       ),
     )
@@ -67,3 +70,9 @@ returns-clause-rows c =
     let i = c.loop-row.row-index in
     let rows = c.loop-row.row-items in
     sym (take_all i rows (omega (arith, six rows c.loop-row.invariant.1.0, c.loop-row-test.false))) ∙ c.loop-row.invariant.1.1.0 ∙ take_all i ms c.loop-row-test.false
+
+pub returns-clause-serving : goal.returns-clause-serving
+returns-clause-serving c =
+    let touches = map volume_code c.args.keys.now in
+    let six : c.loop-row.row-index ≡ 6 = omega (arith, c.loop-row-test.false, c.loop-row.auto.row-index-end) in
+    c.loop-row.invariant.1.1.1.0 ∙ ap (λ n. served_rows touches n c.args.lists.now.serving.now) six

@@ -3,7 +3,7 @@ use Rattle.std.proofs.lemmas.Bool.{le-leb, true≢false}
 use Rattle.base.specs.Keys.{volume_code}
 use Rattle.trace.specs.declared.fault.ReplayFault.{ReplayFault}
 use Rattle.trace.specs.Touches.{judged, counted, Written}
-use Rattle.sheet.specs.Rows.{Lent, lent, room, row_of, frame_counts, touches_for, sheet_of}
+use Rattle.sheet.specs.Rows.{Lent, lent, room, row_of, frame_counts, touches_for, sheet_of, served, serving_of}
 use Rattle.planning.proofs.Judged.{same_ok}
 use Rattle.sheet.proofs.Sheets.{judged_more, counted_some}
 use Rattle.sheet.proofs.sheet.sheet_of_trace.Goals as goal
@@ -20,6 +20,7 @@ returns c =
     let text = c.args.text.now in
     let l = lent c.args.keys.now c.args.lists.now in
     let er = c.min.ensures ∙ ap (min l.keys) c.room.ensures in
+    let old = c.args.lists.now.serving.now in
     let q = counted_some (judged text (room l)) _ (c.in_ok-judge_trace.ensures.answer ∙ ap (λ n. counted (judged text n)) er) in
     let ts = q.0 in
     let more = judged_more text (room l) l.keys ts (omega arith) q.1 in
@@ -33,6 +34,7 @@ returns c =
     record {
       answer = ap Ok rows ∙ sym (sheet_fits text l ts tf);
       keys = subst (λ (r : Result (List ℕ) ReplayFault). Written r c.args.keys.now c.read_trace.new.keys) (sym tf) filled;
+      serving = c.rows_of_keys.ensures.serving ∙ ap (λ w. served 64 w old) part ∙ sym (ap (λ r. serving_of r old) tf);
       same = c.rows_of_keys.ensures.same;
       refused = λ e. absurd (true≢false e);
     }
