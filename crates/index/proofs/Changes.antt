@@ -1,15 +1,30 @@
 -- What freeing and taking a slot does to the map that a list of slots holds.
-use Rattle.std.proofs.Common.{◌≡◌, ℕ, ◌+◌, ◌<◌, ◌≤◌, cond, eqb, List, length, get_or, set, Option, is_some, Some, None, sum_by, count_by, sym, refl, ap, ◌∙◌, inl, inr, arith}
+use Rattle.std.proofs.Common.{◌≡◌, ℕ, ◌+◌, ◌<◌, ◌≤◌, cond, eqb, List, length, get_or, set, Option, is_some, Some, None, sum_by, count_by, true, sym, refl, ap, ◌∙◌, inl, inr, arith}
 use Rattle.std.specs.Map.{update}
 use Rattle.std.proofs.lemmas.List.{get_or_past, get_or_default}
 use Rattle.std.proofs.lemmas.List.Sums.{sum_by-set}
 use Rattle.std.proofs.lemmas.Option.{none-some}
-use Rattle.std.proofs.lemmas.Bool.{cases_eq, cases_lt}
+use Rattle.std.proofs.lemmas.Bool.{cases_eq, cases_lt, eqb-true, true≢false}
 use Rattle.std.proofs.lemmas.Map.{update_here, update_apart}
 use Rattle.std.proofs.lemmas.Bool.Decides.{nat_tests}
 use Rattle.index.specs.declared.slot.Entry.{Entry}
 use Rattle.index.specs.Slots.{holds, number_of}
 use Rattle.index.proofs.Counts.{amount, amount_none, number_only}
+
+-- what stands in a taken slot, and in one that holds a key
+pub some_entry : {X : Type 0} (s : Option X) → is_some s ≡ true → (x : X) × (s ≡ Some x)
+some_entry None taken = absurd (true≢false (sym taken))
+some_entry (Some x) taken = (x, refl)
+
+taken_from_holds : {K : Type 0} (code : K → ℕ) (c : ℕ) (s : Option (Entry K)) → holds code c s ≡ true → is_some s ≡ true
+taken_from_holds code c None h = h
+taken_from_holds code c (Some x) h = refl
+
+pub held_entry : {K : Type 0} (code : K → ℕ) → ((a b : K) → code a ≡ code b → a ≡ b) → (k : K) (s : Option (Entry K)) → holds code (code k) s ≡ true →
+    (n : ℕ) × (s ≡ Some (record { key = k; number = n }))
+held_entry code faithful k None h = absurd (true≢false (sym h))
+held_entry code faithful k (Some x) h =
+    (x.number, ap (λ j. Some (record { key = j; number = x.number })) (sym (faithful k x.key (eqb-true (code k) (code x.key) h))))
 
 -- a taken slot is one of the list's
 pub within_from_taken : {X : Type 0} (xs : List (Option X)) (p : ℕ) (x : X) → get_or xs p None ≡ Some x → p < length xs
@@ -18,6 +33,12 @@ within_from_taken xs p x there =
       | inl less ↦ less
       | inr past ↦ absurd (none-some x (sym (get_or_past xs p None past) ∙ there))
     ]
+
+pub within_from_some : {X : Type 0} (xs : List (Option X)) (p : ℕ) → is_some (get_or xs p None) ≡ true → p < length xs
+within_from_some xs p taken = let q = some_entry (get_or xs p None) taken in within_from_taken xs p q.0 q.1
+
+pub within_from_holds : {K : Type 0} (code : K → ℕ) (xs : List (Option (Entry K))) (p c : ℕ) → holds code c (get_or xs p None) ≡ true → p < length xs
+within_from_holds code xs p c h = within_from_some xs p (taken_from_holds code c (get_or xs p None) h)
 
 -- what was read at p, at any default, stands there at the default None
 pub read_is : {X : Type 0} (xs : List (Option X)) (p : ℕ) (d v : Option X) → p < length xs → get_or xs p d ≡ v → get_or xs p None ≡ v

@@ -14,7 +14,7 @@ use Rattle.index.specs.declared.index.probing.Probe.TheVariants.{Found, Vacant, 
 use Rattle.index.specs.Maps.{Map, empty, after_put, after_remove}
 use Rattle.index.specs.declared.index.Index.{Index}
 use Rattle.index.specs.Slots.{holds, number_of, slots_of, slots_map, Before, Reached, Sound}
-use Rattle.index.specs.Probes.{Absent, Open, Probed, Vacated}
+use Rattle.index.specs.Probes.{Absent, Open, Probed, Tells, Vacated}
 use Rattle.index.proofs.Counts.{number_only}
 use Rattle.index.proofs.Changes.{within_from_taken, freed_size, freed_different, freed_present, freed_at, renumbered, renumbered_size, renumbered_at, filled_size, filled_different, filled_at}
 use Rattle.index.proofs.Maps.{after_put_known, after_put_new, after_remove_known}
@@ -47,12 +47,6 @@ module _ {K : Type 0} (code : K → ℕ) (n : ℕ) where
 module _ {K : Type 0} (code spread : K → ℕ) (xs : List (Option (Entry K))) where
   pub absent_none : (k : K) → Absent code xs k → number_of code xs (code k) ≡ None
   absent_none k h = rw (number_only code (code k) xs (omega arith), h)
-
-  -- a search that did not find the key
-  pub absent_from_rest : (k : K) (r : Probe) → Probed code spread xs k r → ((p n : ℕ) → r ≡ Found p n → ⊥) → Absent code xs k
-  absent_from_rest k (Found p n) h other = absurd (other p n refl)
-  absent_from_rest k (Vacant p) h other = h.absent
-  absent_from_rest k Full h other = h.0
 
   -- a key that is put where each slot on its way is taken is reached, and so are the others
   pub reached_set : (p : ℕ) (x : Entry K) → p < length xs → Reached spread xs →
@@ -114,3 +108,9 @@ module _ {K : Type 0} (code spread : K → ℕ) (xs : List (Option (Entry K))) w
           same_map (slots_map code (set xs p (Some x))) (record { at = update eqb (number_of code xs) (code x.key) (Some x.number); size = count_by is_some xs + 1; places = length xs })
           (filled_at code xs p x o.within o.free different o.absent) added_size (length-set xs p (Some x))
           ∙ sym (after_put_new (slots_map code xs) (code x.key) x.number (absent_none x.key o.absent) added_room)
+
+    -- what looking for a key tells of the map
+    pub tells : (k : K) (r : Probe) → Probed code spread xs k r → Tells (slots_map code xs) (code k) r
+    tells k (Found p n) there = found_at p (record { key = k; number = n }) there
+    tells k (Vacant p) open' = (absent_none k open'.absent, added_room p (record { key = k; number = 0 }) open')
+    tells k Full full = (absent_none k full.0, omega (arith, full.1))

@@ -4,6 +4,7 @@ use Rattle.std.specs.Prelude.{List, length, sum_by, count_by, slice_index_or, sl
 use Rattle.index.specs.declared.slot.Entry.{Entry}
 use Rattle.index.specs.declared.index.probing.Probe.{Probe}
 use Rattle.index.specs.declared.index.probing.Probe.TheVariants.{Found, Vacant, Full}
+use Rattle.index.specs.Maps.{Map, after_remove}
 use Rattle.index.specs.Slots.{holds, Before, Reached}
 
 -- no slot holds the key
@@ -50,3 +51,14 @@ pub record Vacated {K : Type 0} (spread : K → ℕ) (slots : List (Option (Entr
   pub long : length after ≡ length slots
   pub same : (f : Option (Entry K) → ℕ) → sum_by f after ≡ sum_by f (slice_set slots place None)
   pub reached : Reached spread after
+
+-- what looking for a key tells of the map that the slots hold: the key's number, or that it has none, and whether a slot is left
+abbrev pub Tells : Map → ℕ → Probe → Type 0
+Tells m code (Found place number) = m.at code ≡ Some number
+Tells m code (Vacant place) = (m.at code ≡ None) × (m.size < m.places)
+Tells m code Full = (m.at code ≡ None) × (m.places ≤ m.size)
+
+-- the map afterwards is the one before without the key that stands in a slot
+abbrev pub WithoutKeyIn : {K : Type 0} → (K → ℕ) → Option (Entry K) → Map → Map → Type 0
+WithoutKeyIn {K} code slot before after =
+    (key : K) (number : ℕ) → slot ≡ Some (record { key = key; number = number }) → after ≡ after_remove before (code key)

@@ -5,6 +5,7 @@ use crate::slot::Slot;
 mod calls;
 mod probing;
 mod size;
+mod steps;
 
 #[derive(Drop)]
 pub struct Index<'a, K> {

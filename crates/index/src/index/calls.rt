@@ -2,21 +2,22 @@
 ghost use Rattle.std.specs.Prelude.{◌≡◌, length, None, Err};
 ghost use Rattle.base.specs.declared.refusal.Refusal.TheVariants.{IndexFull};
 ghost use Rattle.index.specs.Maps.{empty, put_answer, after_put, after_remove};
-ghost use Rattle.index.specs.Probes.{Probed};
-ghost use Rattle.index.specs.Slots.{map_of, slots_of, Sound};
+ghost use Rattle.index.specs.Slots.{map_of, Sound};
 
 use super::Index;
-use super::probing::{Probe, look_up, vacate};
-use crate::slot::{Entry, Slot};
+use super::probing::Probe;
+use super::steps::free_all;
+use crate::slot::Slot;
 use base::{Key, Refusal};
 
 impl<'a, K: Key> Index<'a, K> {
     // Frees every slot, whatever the table held.
+    #[tactic(auto, using(crate::proofs::Updates::free_sound))]
     pub fn new(slots: &'a mut [Slot<K>]) -> Index<'a, K>
         ensures sound { Sound K.Key.code K.Key.spread result }
         ensures map { map_of K.Key.code result ≡ empty (length slots.old) }
     {
-        slots.fill(None);
+        free_all(slots);
         Index { slots, taken: 0 }
     }
 
@@ -27,12 +28,11 @@ impl<'a, K: Key> Index<'a, K> {
     {
         match self.probe(key) {
             Probe::Found { number, .. } => Some(number),
-            _ => None,
+            Probe::Vacant(_) | Probe::Full => None,
         }
     }
 
     // Stores the number with the key, in place of the one before if there is one.
-    #[tactic(auto, using(crate::proofs::Changes::within_from_taken))]
     pub fn put(&mut self, key: K, number: u32) -> Result<(), Refusal>
         requires { Sound K.Key.code K.Key.spread self.old }
         ensures sound { Sound K.Key.code K.Key.spread self.new }
@@ -42,12 +42,11 @@ impl<'a, K: Key> Index<'a, K> {
     {
         match self.probe(&key) {
             Probe::Found { place, .. } => {
-                self.slots[place] = Some(Entry { key, number });
+                self.renumber(place, key, number);
                 Ok(())
             }
             Probe::Vacant(place) => {
-                self.slots[place] = Some(Entry { key, number });
-                self.taken += 1;
+                self.add(place, key, number);
                 Ok(())
             }
             Probe::Full => Err(Refusal::IndexFull),
@@ -55,7 +54,7 @@ impl<'a, K: Key> Index<'a, K> {
     }
 
     // Takes the key out, and answers the number that was stored with it.
-    #[tactic(auto, using(crate::proofs::Changes::within_from_taken))]
+    #[tactic(auto, using(crate::proofs::Maps::remove_none))]
     pub fn remove(&mut self, key: &K) -> Option<u32>
         requires { Sound K.Key.code K.Key.spread self.old }
         ensures sound { Sound K.Key.code K.Key.spread self.new }
@@ -63,19 +62,12 @@ impl<'a, K: Key> Index<'a, K> {
         ensures map { map_of K.Key.code self.new ≡ after_remove (map_of K.Key.code self.old) (K.Key.code key.now) }
         ensures absent { result ≡ None → self.new ≡ self.old }
     {
-        let Probe::Found { place, number } = self.probe(key) else {
-            return None;
-        };
-        vacate(self.slots, place);
-        self.taken -= 1;
-        Some(number)
-    }
-
-    // Where the key stands, or would stand.
-    fn probe(&self, key: &K) -> Probe
-        requires { Sound K.Key.code K.Key.spread self.now }
-        ensures { Probed K.Key.code K.Key.spread (slots_of self.now) key.now result }
-    {
-        look_up(self.slots, key)
+        match self.probe(key) {
+            Probe::Found { place, number } => {
+                self.take_out(place);
+                Some(number)
+            }
+            Probe::Vacant(_) | Probe::Full => None,
+        }
     }
 }
