@@ -1,5 +1,6 @@
 // Lists of turns, served by a disk of any kind.
 ghost use Rattle.std.specs.Prelude.{◌≡◌, [], length};
+ghost use Rattle.disk.specs.Meaning.{Tallied};
 ghost use Rattle.disk.specs.Turns.{AllAnswered, after_turns};
 ghost use Rattle.disk.specs.Turn.{Done, after_turn};
 
@@ -21,6 +22,18 @@ fn take_turn<D: Disk>(disk: &mut D, turn: &mut Turn)
     }
 }
 
+// Takes the turns one after another. That the tallies have 64 bits is known of a disk only once it has been asked for them.
+fn take_turns<D: Disk>(disk: &mut D, turns: &mut [Turn])
+    requires { D.Disk.sound disk.old }
+    ensures kept { D.Disk.sound disk.new }
+    ensures answers { AllAnswered (D.Disk.meaning disk.old) [] turns.old turns.new }
+    ensures after { Tallied (D.Disk.meaning disk.new) → D.Disk.meaning disk.new ≡ after_turns (D.Disk.meaning disk.old) turns.old }
+{
+    for turn in turns.iter_mut() {
+        take_turn(disk, turn);
+    }
+}
+
 // Takes the turns one after another, and answers what the disk has served by then.
 pub fn serve_turns<D: Disk>(disk: &mut D, turns: &mut [Turn]) -> Tallies
     requires { D.Disk.sound disk.old }
@@ -30,8 +43,6 @@ pub fn serve_turns<D: Disk>(disk: &mut D, turns: &mut [Turn]) -> Tallies
     ensures reads { result.reads ≡ (D.Disk.meaning disk.new).reads }
     ensures writes { result.writes ≡ (D.Disk.meaning disk.new).writes }
 {
-    for turn in turns.iter_mut() {
-        take_turn(disk, turn);
-    }
+    take_turns(disk, turns);
     disk.tallies()
 }

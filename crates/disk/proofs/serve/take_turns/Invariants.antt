@@ -1,5 +1,5 @@
 use Rattle.disk.proofs.Turns.{Running}
-use Rattle.disk.proofs.serve.serve_turns.Given as goal
+use Rattle.disk.proofs.serve.take_turns.Given as goal
 
 abbrev pub invariant-loop-turn : goal.invariant-loop-turn
 invariant-loop-turn g l =

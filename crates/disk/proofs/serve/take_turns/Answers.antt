@@ -1,7 +1,7 @@
 use Rattle.std.proofs.Common.{◌^◌, ◌<◌, ◌≤◌, length, refl, ap, ◌∙◌, arith}
 use Rattle.disk.specs.Meaning.{Meaning}
 use Rattle.disk.proofs.Turns.{running_more, running_all, along, along_is}
-use Rattle.disk.proofs.serve.serve_turns.Goals as goal
+use Rattle.disk.proofs.serve.take_turns.Goals as goal
 
 pub loop-turn-init : goal.loop-turn-init
 loop-turn-init g c = (c.requires, record { answered = tt; rest = refl; long = refl; after = refl })
@@ -19,7 +19,11 @@ returns g c =
     let q = running_all _ _ _ _ _ c.loop-turn.invariant.1 h in
     let m = g.D.Disk.meaning c.args.disk.now in
     let us = c.args.turns.now in
-    let b = c.tallies.ensures.bounded in
-    let r : (along m us).reads < 2 ^ 64 = omega (arith, b.0, ap (λ (n : Meaning). n.reads) q.1) in
-    let w : (along m us).writes < 2 ^ 64 = omega (arith, b.1, ap (λ (n : Meaning). n.writes) q.1) in
-    record { kept = c.loop-turn.invariant.0; answers = q.0; after = q.1 ∙ along_is m us r w; reads = c.tallies.ensures.reads; writes = c.tallies.ensures.writes }
+    record {
+      kept = c.loop-turn.invariant.0;
+      answers = q.0;
+      after = λ bounded.
+          let r : (along m us).reads < 2 ^ 64 = omega (arith, bounded.0, ap (λ (n : Meaning). n.reads) q.1) in
+          let w : (along m us).writes < 2 ^ 64 = omega (arith, bounded.1, ap (λ (n : Meaning). n.writes) q.1) in
+          q.1 ∙ along_is m us r w;
+    }
