@@ -1,5 +1,5 @@
 // Plan and replay together.
-ghost use Rattle.std.specs.Prelude.{◌≡◌, ℕ, ◌<◌, ◌≤◌, false, [], ◌++◌, map, length, take, drop};
+ghost use Rattle.std.specs.Prelude.{◌≡◌, ℕ, ◌<◌, ◌≤◌, false, map, length, take};
 ghost use Rattle.std.specs.Prelude.{is_ok, IfOk};
 ghost use Rattle.planning.specs.Bounds.{Competitive, Bounded};
 ghost use Rattle.planning.specs.Lists.{places, Unchanged, SameLists};
