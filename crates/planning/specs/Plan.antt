@@ -73,5 +73,6 @@ forecast_of r c touches k h = record {
 abbrev pub planned : List ℕ → ℕ → ℕ → Places → Result (Planning Plan) Refusal
 planned touches k h p = result_and (plan_answer (length touches) k h h p) (Ok (planning_of touches k h))
 
-abbrev pub forecasted : {Setting State : Type 0} → Rules Setting State → Setting → List ℕ → ℕ → ℕ → Places → Result (Planning Forecast) Refusal
+abbrev pub forecasted : {Setting State : Type 0} → Rules Setting State → Setting → List ℕ → ℕ → ℕ → Places →
+    Result (Planning Forecast) Refusal
 forecasted r c touches k h p = result_and (plan_answer (length touches) k h (max k h) p) (Ok (forecast_of r c touches k h))
