@@ -1,5 +1,6 @@
 pub mod Keys
 pub mod Stores
+pub mod Dirty
 pub mod Views
 pub mod Requests
 pub mod Takings

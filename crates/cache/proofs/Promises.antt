@@ -11,6 +11,7 @@ use Rattle.planning.proofs.Ceilings.{min_optimal, competitive, under_ceiling}
 use Rattle.cache.specs.View.{View}
 use Rattle.cache.specs.Events.{Event}
 use Rattle.cache.specs.Promise.{Origin, Taken, Promise, touches, machine_fetches}
+use Rattle.cache.proofs.Takings.{facts_of}
 
 -- planning in lists with enough places is not refused
 plan_accepted : (ts : List ℕ) (k h : ℕ) (places : Places) → 1 ≤ k → k ≤ 64 → length ts ≤ most_touches → 1 ≤ h → h ≤ k → enough (length ts) h places ≡ true →
@@ -25,23 +26,26 @@ module _ {Setting State : Type 0} (r : Rules Setting State) (law : Conservative 
       let part = mul-le-mul_left (k - h + 1) low in
       omega arith
 
-  pub promise_of : (o : Origin Setting) (es : List Event) (v : View State) → Taken r o es v → Promise r o es v.fetched
+  pub promise_of : (o : Origin Setting State) (es : List (Event State)) (v : View State) → Taken r o es v → Promise r o es v
   promise_of o es v t =
       let ts = touches o es in
-      let low : v.fetched ≤ machine_fetches r o es = omega (arith, t.counts) in
+      let f = facts_of r o es v t in
+      let low : v.fetched ≤ machine_fetches r o es = omega (arith, f.counts) in
       let bound : (h d : ℕ) → 1 ≤ h → h ≤ o.frames → Demand h [] ts d → (o.frames - h + 1) * v.fetched ≤ o.frames * d + o.frames * (o.frames - h + 1) =
       λ h d one fits demand. cut_bound o.setting o.frames h d v.fetched ts one fits demand low in
       record {
-        answers = t.answers;
-        counts = t.counts;
-        turnwise = t.turnwise;
+        answers = f.answers;
+        shows = f.shows;
+        counts = f.counts;
+        turnwise = f.turnwise;
+        reads = f.reads;
+        below = f.asks;
         bound = bound;
-        below = t.asks;
         plans = λ few h one fits places room.
             let best = min_optimal h one ts in
             record {
               planning = planning_of ts o.frames h;
-              accepted = plan_accepted ts o.frames h places t.some t.most few one fits room;
+              accepted = plan_accepted ts o.frames h places t.begun.some t.begun.most few one fits room;
               optimal = best;
               ceiling_is = refl;
               most = under_ceiling o.frames h (min_fetches h [] ts) v.fetched one fits (bound h _ one fits best.schedule);

@@ -1,17 +1,21 @@
 -- Requests: an access, and then the place's bytes read or written.
-use Rattle.std.proofs.Common.{◌≡◌, ℕ, true, false, eqb, ◌≢◌, List, length, is_ok, Ok, Err, Result, sym, refl, ap, ◌∙◌, arith}
-use Rattle.std.proofs.lemmas.Bool.{ne_eqb}
+use Rattle.std.proofs.Common.{◌≡◌, ℕ, Bool, true, false, not, ◌&&◌, ◌||◌, eqb, ◌≢◌, List, length, is_ok, Ok, Err, Result, sym, refl, ap, ◌∙◌, arith}
+use Rattle.std.proofs.lemmas.Bool.{ne_eqb, and_right, true≢false}
 use Rattle.base.specs.declared.refusal.Refusal.TheVariants.{BufferLength}
 use Rattle.base.specs.declared.refusal.Refusal.{Refusal}
 use Rattle.disk.specs.declared.tallies.Tallies.{Tallies}
+use Rattle.disk.specs.declared.turn.Request.{Request}
+use Rattle.disk.specs.declared.turn.Request.TheVariants.{Read, Write}
+use Rattle.disk.specs.Turns.{is_write}
 use Rattle.disk.specs.Meaning.{answer, serves, raised, read_one, written_one, after_read, buffer_read, after_write}
 use Rattle.policy.specs.Machine.{Rules}
 use Rattle.policy.specs.Shape.{Shape}
 use Rattle.cache.specs.declared.store.Store.{Store}
-use Rattle.cache.specs.Places.{place_at, pins, stored}
+use Rattle.cache.specs.Places.{place_at, pins, stored, is_dirty}
 use Rattle.cache.specs.View.{View, Sound, seen, machine}
 use Rattle.cache.specs.Steps.{touched_view, place_of, with_place}
-use Rattle.cache.specs.Requests.{Turned}
+use Rattle.cache.specs.Requests.{Turned, misses, puts_out, dirty_after}
+use Rattle.cache.proofs.Dirty.{and_true, stored_dirty}
 use Rattle.cache.proofs.Stores.{HeldAt, shown_held, stored_used, stored_held, stored_holds, stored_shows}
 use Rattle.cache.proofs.Views.{Touched, touched_facts}
 
@@ -50,8 +54,15 @@ module _ {Setting State : Type 0} (r : Rules Setting State) (v : View State) (x 
   pub short_answer : ◌≡◌ {A = Result (Unit {0}) Refusal} (Err BufferLength) (answer (seen v) x (length b))
   short_answer = rw off
 
-  pub short_turned : Turned r v x (length b) v
-  short_turned = record { pinned = refl; touches = rw off; counts = rw off; below = rw off }
+  pub short_turned : (q : Request) → Turned r q v x (length b) v
+  short_turned q = record {
+    refused = λ _. refl;
+    pinned = refl;
+    touches = rw off;
+    counts = rw off;
+    below = rw off;
+    dirty = λ y. rw (off, and_right (is_write q) false refl) (sym (and_true (is_dirty v.store y) true refl));
+  }
 
 -- A request for x with a buffer b of 512 bytes, to a cache v that a touch makes w.
 pub record Asked {Setting State : Type 0} (r : Rules Setting State) (v w : View State) (x : ℕ) (b : List ℕ) : Type 0 where
@@ -65,16 +76,31 @@ module _ {Setting State : Type 0} {r : Rules Setting State} {v w : View State} {
   pub touched_is : Touched r q.shape v w x
   touched_is = rw q.is (touched_facts r q.shape v x q.sound)
 
-  -- what it did besides, also to a view that differs only in its bytes and tallies
-  pub turned : (w' : View State) → pins w'.store ≡ pins w.store → machine w' ≡ machine w → w'.fetched ≡ w.fetched → w'.below ≡ w.below → Turned r v x (length b) w'
-  turned w' ep em ef eb =
+  -- whether a sector is dirty after it
+  abbrev pub touched_dirty : ℕ → Bool
+  touched_dirty y = is_dirty v.store y && not (misses r v x (length b) && puts_out r v y)
+
+  dirty_is : (y : ℕ) → is_dirty w.store y ≡ touched_dirty y
+  dirty_is y = rw q.long (touched_is.dirty y)
+
+  -- what it did besides, also to a view that differs only in its bytes, marks and tallies
+  turned : (k : Request) (w' : View State) → (serves (seen v) x (length b) ≡ false → w' ≡ v) → pins w'.store ≡ pins w.store → machine w' ≡ machine w →
+      w'.fetched ≡ w.fetched → w'.below ≡ w.below → ((y : ℕ) → is_dirty w'.store y ≡ dirty_after r k v x (length b) y) → Turned r k v x (length b) w'
+  turned k w' refused ep em ef eb ed =
       let t = touched_is in
       record {
+        refused = refused;
         touches = rw q.long (em ∙ t.touches);
         counts = rw q.long (ef ∙ t.counts);
         pinned = ep ∙ t.pinned;
         below = rw q.long (eb ∙ t.below);
+        dirty = ed;
       }
+
+  -- a touch that is refused changes nothing
+  pub refused_turned : (k : Request) → serves (seen v) x (length b) ≡ false → Turned r k v x (length b) w
+  refused_turned k unserved = turned k w (λ _. touched_is.refused (rw q.long at unserved)) refl refl refl refl
+      (λ y. rw (unserved, and_right (is_write k) false refl) (rw unserved at (dirty_is y)))
 
   -- where the touch was refused
   pub refused_answer : (e : Refusal) → Err e ≡ with_place (answer v.below x 512) (place_of r v x) → ◌≡◌ {A = Result (Unit {0}) Refusal} (Err e) (answer (seen v) x (length b))
@@ -91,8 +117,11 @@ module _ {Setting State : Type 0} {r : Rules Setting State} {v w : View State} {
     pub accepted_at : HeldAt w.store x f
     accepted_at = rw (with_ok (answer v.below x 512) f (place_of r v x) accepted).1 (touched_is.at (rw q.long at accepted_serves))
 
+    pub read_turned : (t : Tallies) → Turned r Read v x (length b) (counted w w.store t)
+    read_turned t = turned Read (counted w w.store t) (λ n. absurd (true≢false (sym accepted_serves ∙ n))) refl refl refl refl dirty_is
+
     pub read_sound : (t : Tallies) → Sound r (counted w w.store t)
-    read_sound t = record { placing = touched_is.sound.placing; holding = touched_is.sound.holding; sizes = touched_is.sound.sizes }
+    read_sound t = let k = touched_is.sound in record { placing = k.placing; holding = k.holding; sizes = k.sizes; tallied = k.tallied }
 
     pub read_after : (t : Tallies) → t.reads ≡ raised w.reads → t.writes ≡ w.writes → seen (counted w w.store t) ≡ after_read (seen v) x b
     read_after t e k = rw (accepted_serves, e, k) (ap read_one touched_is.shows)
@@ -106,7 +135,7 @@ module _ {Setting State : Type 0} {r : Rules Setting State} {v w : View State} {
       pub write_sound : Sound r (counted w s t)
       write_sound =
           let k = touched_is.sound in
-          rw put (record { placing = rw (stored_used w.store f b) k.placing; holding = stored_holds w.store k.holding f accepted_at.0 b q.long; sizes = k.sizes })
+          rw put (record { placing = rw (stored_used w.store f b) k.placing; holding = stored_holds w.store k.holding f accepted_at.0 b q.long; sizes = k.sizes; tallied = k.tallied })
 
       pub write_after : t.reads ≡ w.reads → t.writes ≡ raised w.writes → seen (counted w s t) ≡ after_write (seen v) x b
       write_after u e =
@@ -114,5 +143,8 @@ module _ {Setting State : Type 0} {r : Rules Setting State} {v w : View State} {
           rw (accepted_serves, put, u, e, stored_shows w.store k.holding f accepted_at.0 b, accepted_at.1)
           (ap (λ m. written_one m x b) touched_is.shows)
 
-      pub write_turned : Turned r v x (length b) (counted w s t)
-      write_turned = turned (counted w s t) (rw (put, stored_held w.store f b)) (rw (put, stored_held w.store f b)) refl refl
+      pub write_turned : Turned r Write v x (length b) (counted w s t)
+      write_turned = turned Write (counted w s t) (λ n. absurd (true≢false (sym accepted_serves ∙ n)))
+          (rw (put, stored_held w.store f b)) (rw (put, stored_held w.store f b)) refl refl
+          (λ y. rw (put, stored_dirty w.store f accepted_at.0 touched_is.sound.holding.apart y b, accepted_at.1, accepted_serves)
+          (ap (λ c. eqb y x || c) (rw accepted_serves at (dirty_is y))))

@@ -3,7 +3,7 @@ use Rattle.std.proofs.Common.{◌≡◌, ℕ, ◌+◌, ◌<◌, ◌≤◌, true,
 use Rattle.std.proofs.lemmas.Bool.{le-ltb}
 use Rattle.std.proofs.lemmas.List.{drop_all, length-append}
 use Rattle.base.specs.Lists.{member}
-use Rattle.disk.specs.Meaning.{Meaning, Sized, serves, read_one}
+use Rattle.disk.specs.Meaning.{Meaning, Sized, Tallied, serves, read_one}
 use Rattle.disk.proofs.Served.{live_served}
 use Rattle.policy.specs.Machine.{Rules}
 use Rattle.policy.specs.Shape.{first, Shape}
@@ -12,11 +12,12 @@ use Rattle.policy.specs.declared.policy.Policy as policies
 use Rattle.cache.specs.declared.set_up.SetUpCache.{SetUpCache}
 use Rattle.cache.specs.declared.store.Place.{Place}
 use Rattle.cache.specs.declared.store.Store.{Store}
-use Rattle.cache.specs.Places.{used, place_at, clean_place, held, framed, pinned_in}
+use Rattle.cache.specs.Places.{used, dirty, clean_place, held, framed, pinned_in}
 use Rattle.cache.specs.View.{View, Sound, Holding, seen}
-use Rattle.cache.specs.Promise.{Taken}
+use Rattle.cache.specs.Promise.{Begun, Taken}
 use Rattle.cache.specs.SetUp.{set_up_view, FirstState, Ready, origin}
 use Rattle.cache.proofs.Stores.{Absent, held_length, absent_from, installed_holds, each_then}
+use Rattle.cache.proofs.Dirty.{none_dirty, clean_at}
 use Rattle.cache.proofs.Flushes.{clean_shows}
 
 -- a cache that has served nothing
@@ -25,9 +26,9 @@ idle m p s = record { below = m; policy = p; store = s; fetched = 0; reads = 0; 
 
 module _ {Setting State : Type 0} (r : Rules Setting State) (shape : Shape r) where
   -- an empty one
-  pub empty_sound : (c : Setting) (k : ℕ) → 1 ≤ k → k ≤ 64 → (m : Meaning) (p : State) (s : Store) → Sized m → p ≡ r.first c k → s.places.items ≡ [] → s.pinned ≡ 0 →
+  pub empty_sound : (c : Setting) (k : ℕ) → 1 ≤ k → k ≤ 64 → (m : Meaning) (p : State) (s : Store) → Sized m → Tallied m → p ≡ r.first c k → s.places.items ≡ [] → s.pinned ≡ 0 →
       Sound r (idle m p s)
-  empty_sound c k some most m p s sizes is empty unpinned =
+  empty_sound c k some most m p s sizes tallied is empty unpinned =
       let none : used s ≡ 0 = ap length empty in
       let frames : r.frames p ≡ k = rw is (shape.first_frames c k some) in
       let filled : r.filled p ≡ 0 = rw is (shape.first_filled c k some) in
@@ -41,6 +42,7 @@ module _ {Setting State : Type 0} (r : Rules Setting State) (shape : Shape r) wh
           clean = λ i h. absurd (omega arith);
         };
         sizes = sizes;
+        tallied = tallied;
       }
 
 -- a cache c that is set up: no frame is filled, and nothing is dirty
@@ -55,25 +57,24 @@ module _ {D P Setting : Type 0} (d : disks.Ghosts D) (p : policies.Ghosts P Sett
   framed_none = drop_all s.pinned (held s) (rw (held_length s) (omega (arith, q.unfilled)))
 
   pub idle_shows : (seen (set_up_view d p c)).bytes ≡ m.bytes
-  idle_shows = sym (clean_shows p.rules shape (set_up_view d p c) q.own q.clean)
+  idle_shows = sym (clean_shows p.rules (set_up_view d p c) q.own q.clean)
 
-  -- its start has taken no turns
-  pub idle_taken : (setting : Setting) → FirstState d p c setting → Taken p.rules (origin d p c setting) [] (set_up_view d p c)
-  idle_taken setting is = record {
+  -- what a cache is started with has taken no turns
+  pub idle_begun : (setting : Setting) → FirstState d p c setting → Begun p.rules (origin d p c setting)
+  idle_begun setting is = record {
     some = c.geometry.some;
     most = c.geometry.most;
-    pinned = refl;
-    count = refl;
-    dead = refl;
+    first = is;
+    unfilled = framed_none;
+    clean = q.clean;
     bytes = idle_shows;
-    frames = rw (framed_none, is);
     counts = refl;
-    last = refl;
-    under = refl;
-    turnwise = tt;
-    answers = tt;
-    asks = tt;
+    tallies = (refl, refl);
+    reads = q.own.tallied.0;
   }
+
+  pub idle_taken : (setting : Setting) → FirstState d p c setting → Taken p.rules (origin d p c setting) [] (set_up_view d p c)
+  idle_taken setting is = record { begun = idle_begun setting is; steps = tt; last = refl }
 
   -- a pin of x, which is not pinned, where it is served
   module _ (x : ℕ) (out : member x (held s) ≡ false) (room : s.pinned < 8) (served : serves m x 512 ≡ true) where
@@ -103,10 +104,12 @@ module _ {D P Setting : Type 0} (d : disks.Ghosts D) (p : policies.Ghosts P Sett
           placing = record { reached = k.reached; most = k.most; few = omega arith; filled = rw pinned_used (omega arith) };
           holding = pinned_holds;
           sizes = q.own.sizes;
+          tallied = (omega arith, q.own.tallied.1);
         }
 
-    pin_clean : (i : ℕ) → i < used then_store → (place_at then_store i).dirty ≡ false
-    pin_clean = rw (le-ltb (used s) (used s) next) at (each_then s q.own.holding x (used s) none next (λ (w : Place). w.dirty ≡ false) refl q.clean)
+    pin_clean : dirty then_store ≡ []
+    pin_clean = none_dirty then_store (rw (le-ltb (used s) (used s) next) at
+        (each_then s q.own.holding x (used s) none next (λ (w : Place). w.dirty ≡ false) refl (clean_at s q.clean)))
 
     -- the cache c' whose disk has served the read, and whose store has the sector, is as c was
     pub pin_kept : (c' : SetUpCache D P) (b : List ℕ) → d.meaning c'.below ≡ read_one m → c'.store ≡ pinned_in s x b → b ≡ m.bytes x → c'.policy ≡ c.policy →

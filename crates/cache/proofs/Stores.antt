@@ -10,7 +10,7 @@ use Rattle.policy.specs.Members.{member_index, place_within, index_place}
 use Rattle.disk.specs.Meaning.{replaced}
 use Rattle.cache.specs.declared.store.Place.{Place}
 use Rattle.cache.specs.declared.store.Store.{Store}
-use Rattle.cache.specs.Places.{used, place_at, clean_place, held, changed, stored, cleaned, installed}
+use Rattle.cache.specs.Places.{HeldOnce, used, place_at, clean_place, held, changed, stored, cleaned, installed}
 use Rattle.cache.specs.View.{Holding, shown}
 
 -- no place of a store holds a sector
@@ -22,7 +22,7 @@ abbrev pub HeldAt : Store → ℕ → ℕ → Type 0
 HeldAt s x i = (i < used s) × ((place_at s i).sector ≡ x)
 
 -- what a place that no code reads would be
-abbrev blank : Place
+abbrev pub blank : Place
 blank = clean_place 0 []
 
 module _ (s : Store) where
@@ -94,12 +94,15 @@ module _ (s : Store) (f : ℕ) (p : Place) (same : p.sector ≡ (place_at s f).s
     pub changed_sector : (i : ℕ) → (place_at (changed s f p) i).sector ≡ (place_at s i).sector
     changed_sector i = elim (cases_eq i f) [ inl e ↦ rw (e, changed_at) same | inr n ↦ rw (changed_other i n) ]
 
+    pub changed_once : HeldOnce s → HeldOnce (changed s f p)
+    changed_once once i j k l e = once i j (rw changed_used at k) (rw changed_used at l) (sym (changed_sector i) ∙ e ∙ changed_sector j)
+
     -- over bytes that may differ in the sector of f alone
     module _ {count : ℕ} {dead : ℕ → Bool} {bytes : ℕ → List ℕ} (h : Holding count dead bytes s) (bytes' : ℕ → List ℕ)
         (others : (x : ℕ) → (x ≡ (place_at s f).sector → ⊥) → bytes' x ≡ bytes x) where
       pub changed_holds : length p.block ≡ 512 → (p.dirty ≡ false → p.block ≡ bytes' p.sector) → Holding count dead bytes' (changed s f p)
       changed_holds long clean = record {
-        apart = λ i j k l e. h.apart i j (rw changed_used at k) (rw changed_used at l) (sym (changed_sector i) ∙ e ∙ changed_sector j);
+        apart = changed_once h.apart;
         inside = λ i k. rw (changed_sector i) (h.inside i (rw changed_used at k));
         live = λ i k. rw (changed_sector i) (h.live i (rw changed_used at k));
         sized = λ i k. elim (cases_eq i f)
@@ -184,7 +187,7 @@ module _ {count : ℕ} {dead : ℕ → Bool} {bytes : ℕ → List ℕ} (s : Sto
     | inr k ↦ rw (le-ltb f (used s) k) (length-append s.places.items (new_place ∷ []))
   ]
 
-  used_then : (i : ℕ) → i < used then_store → (i ≡ f → ⊥) → i < used s
+  pub used_then : (i : ℕ) → i < used then_store → (i ≡ f → ⊥) → i < used s
   used_then i k n =
       let k' : i < cond (ltb f (used s)) (used s) (used s + 1) = rw installed_used at k in
       elim (cases_lt f (used s)) [
@@ -198,20 +201,20 @@ module _ {count : ℕ} {dead : ℕ → Bool} {bytes : ℕ → List ℕ} (s : Sto
     | inr l ↦ rw (le-ltb f (used s) l) (omega arith)
   ])
 
-  still_used : (i : ℕ) → i < used s → i < used then_store
+  pub still_used : (i : ℕ) → i < used s → i < used then_store
   still_used i k = rw installed_used (elim (cases_lt f (used s)) [
     | inl l ↦ rw (lt-ltb f (used s) l) k
     | inr l ↦ rw (le-ltb f (used s) l) (omega arith)
   ])
 
   -- what stands at f, and elsewhere
-  new_at : place_at then_store f ≡ new_place
+  pub new_at : place_at then_store f ≡ new_place
   new_at = elim (cases_lt f (used s)) [
     | inl k ↦ rw (lt-ltb f (used s) k) (get_or-set_same s.places.items f new_place blank k)
     | inr k ↦ rw (le-ltb f (used s) k) (get_or_at s.places.items new_place [] blank f (omega arith))
   ]
 
-  new_other : (i : ℕ) → i < used s → (i ≡ f → ⊥) → place_at then_store i ≡ place_at s i
+  pub new_other : (i : ℕ) → i < used s → (i ≡ f → ⊥) → place_at then_store i ≡ place_at s i
   new_other i l n = elim (cases_lt f (used s)) [
     | inl k ↦ rw (lt-ltb f (used s) k) (get_or-set_other s.places.items f i new_place blank n)
     | inr k ↦ rw (le-ltb f (used s) k) (get_or_append_left s.places.items (new_place ∷ []) blank i l)
@@ -228,10 +231,10 @@ module _ {count : ℕ} {dead : ℕ → Bool} {bytes : ℕ → List ℕ} (s : Sto
   ]
 
   -- a place that holds what one of before held
-  sector_other : (i : ℕ) → i < used then_store → (i ≡ f → ⊥) → (place_at then_store i).sector ≡ (place_at s i).sector
+  pub sector_other : (i : ℕ) → i < used then_store → (i ≡ f → ⊥) → (place_at then_store i).sector ≡ (place_at s i).sector
   sector_other i k n = ap (λ (p : Place). p.sector) (new_other i (used_then i k n) n)
 
-  sector_at_f : (i : ℕ) → i ≡ f → (place_at then_store i).sector ≡ x
+  pub sector_at_f : (i : ℕ) → i ≡ f → (place_at then_store i).sector ≡ x
   sector_at_f i e = rw e sector_f
 
   pub installed_holds : x < count → dead x ≡ false → length (bytes x) ≡ 512 → Holding count dead bytes then_store
@@ -252,32 +255,37 @@ module _ {count : ℕ} {dead : ℕ → Bool} {bytes : ℕ → List ℕ} (s : Sto
     clean = each_then (λ p. p.dirty ≡ false → p.block ≡ bytes p.sector) (λ _. refl) h.clean;
   }
 
+  -- a sector that another place holds is held there still, what place f held is held no more, and what was not held is not, but for x
+  pub held_then : (y i : ℕ) → HeldAt s y i → (i ≡ f → ⊥) → HeldAt then_store y i
+  held_then y i at n = (still_used i at.0, ap (λ (q : Place). q.sector) (new_other i at.0 n) ∙ at.1)
+
+  pub gone_then : (y i : ℕ) → HeldAt s y i → i ≡ f → Absent then_store y
+  gone_then y i at e j k q = elim (cases_eq j f) [
+    | inl p ↦ none i at.0 (at.1 ∙ sym q ∙ sector_at_f j p)
+    | inr n ↦ n (h.apart j i (used_then j k n) at.0 (sym (sector_other j k n) ∙ q ∙ sym at.1) ∙ e)
+  ]
+
+  pub absent_then : (y : ℕ) → Absent s y → (y ≡ x → ⊥) → Absent then_store y
+  absent_then y a n i k e = elim (cases_eq i f) [
+    | inl q ↦ n (sym e ∙ sector_at_f i q)
+    | inr m ↦ a i (used_then i k m) (sym (sector_other i k m) ∙ e)
+  ]
+
   -- where the place was clean, nothing that is shown changes
   pub installed_shows : (f < used s → (place_at s f).dirty ≡ false) → Holding count dead bytes then_store → shown then_store bytes ≡ shown s bytes
   installed_shows clean h' = fun_ext (λ y. elim (cases_held s y) [
     | inl p ↦ elim (cases_eq p.0 f) [
-      | inl e ↦ shown_absent then_store bytes y (gone y p.0 p.1 e) ∙
+      | inl e ↦ shown_absent then_store bytes y (gone_then y p.0 p.1 e) ∙
           sym (shown_held s h bytes y p.0 p.1 ∙ h.clean p.0 p.1.0 (rw e (clean (rw e at p.1.0))) ∙ ap bytes p.1.1)
       | inr n ↦
-          let o = new_other p.0 p.1.0 n in
-          shown_held then_store h' bytes y p.0 (still_used p.0 p.1.0, ap (λ (q : Place). q.sector) o ∙ p.1.1) ∙ ap (λ (q : Place). q.block) o ∙
+          shown_held then_store h' bytes y p.0 (held_then y p.0 p.1 n) ∙ ap (λ (q : Place). q.block) (new_other p.0 p.1.0 n) ∙
           sym (shown_held s h bytes y p.0 p.1)
     ]
     | inr a ↦ elim (cases_eq y x) [
       | inl e ↦ shown_held then_store h' bytes y f (used_f, sector_f ∙ sym e) ∙ ap (λ (q : Place). q.block) new_at ∙ ap bytes (sym e) ∙ sym (shown_absent s bytes y a)
-      | inr n ↦ shown_absent then_store bytes y (λ i k e. elim (cases_eq i f) [
-        | inl q ↦ n (sym e ∙ sector_at_f i q)
-        | inr m ↦ a i (used_then i k m) (sym (sector_other i k m) ∙ e)
-      ]) ∙ sym (shown_absent s bytes y a)
+      | inr n ↦ shown_absent then_store bytes y (absent_then y a n) ∙ sym (shown_absent s bytes y a)
     ]
   ])
-    where
-      -- what place f held is held no more
-      gone : (y i : ℕ) → HeldAt s y i → i ≡ f → Absent then_store y
-      gone y i at e j k q = elim (cases_eq j f) [
-        | inl p ↦ none i at.0 (at.1 ∙ sym q ∙ sector_at_f j p)
-        | inr n ↦ n (h.apart j i (used_then j k n) at.0 (sym (sector_other j k n) ∙ q ∙ sym at.1) ∙ e)
-      ]
 
   -- the list of the sectors held then
   pub installed_held : held then_store ≡ put (held s) f x

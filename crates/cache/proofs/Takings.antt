@@ -1,139 +1,120 @@
--- One turn more: what a turn did to a cache, put behind the turns that it had taken.
-use Rattle.std.proofs.Common.{◌≡◌, ℕ, ◌+◌, ◌<◌, ◌≤◌, min, Bool, true, false, cond, not, ◌&&◌, ◌||◌, eqb, ltb, List, [], ◌∷◌, ◌++◌, length, is_ok, Ok, Result, sym, refl, ap, ◌∙◌, subst, inl, inr, append_assoc, arith}
+-- The turns that a cache has taken since its start, one after another: what holds after one more, and so after all of them.
+use Rattle.std.proofs.Common.{◌≡◌, ℕ, ◌+◌, ◌<◌, ◌≤◌, min, Bool, true, false, cond, not, ◌&&◌, ◌||◌, eqb, ltb, List, [], ◌∷◌, ◌++◌, length, count_by, Ok, Result, sym, refl, ap, ◌∙◌, subst, inl, inr, append_assoc, arith}
 use mathlib.Core.Path.{fun_ext}
 use Rattle.std.proofs.lemmas.Bool.{cases_Bool, true≢false}
 use Rattle.std.proofs.lemmas.List.{append-nil}
+use Rattle.std.proofs.lemmas.List.Sums.{sum_by_push}
 use Rattle.base.specs.declared.refusal.Refusal.{Refusal}
 use Rattle.base.specs.Lists.{member}
 use Rattle.disk.specs.declared.turn.Request.{Request}
 use Rattle.disk.specs.declared.turn.Request.TheVariants.{Read, Write, Flush}
-use Rattle.disk.specs.Meaning.{Meaning, answer, serves, raised, read_one, written_one, after_read, buffer_read, after_write, largest_tally}
+use Rattle.disk.specs.Meaning.{Meaning, answer, serves, raised, after_read, buffer_read, after_write, largest_tally}
 use Rattle.disk.specs.Turns.{is_read, is_write, answer_request}
-use Rattle.policy.specs.Machine.{Rules, Machine, touch, touched, fetches}
+use Rattle.disk.specs.Turn.{after_request, buffer_request}
+use Rattle.disk.proofs.Turns.{request_after}
+use Rattle.policy.specs.Machine.{Rules, Machine, start, touch, touched, fetches}
 use Rattle.policy.specs.Machines.{touched_append, fetches_append}
 use Rattle.cache.specs.Places.{used, place_at, pins, framed}
 use Rattle.cache.specs.View.{View, seen, machine}
 use Rattle.cache.specs.Steps.{next_place}
 use Rattle.cache.specs.Requests.{Turned, misses, fetched_below}
 use Rattle.cache.specs.Flush.{Flushed}
-use Rattle.cache.specs.Events.{Event, Each, AsAlone, Asks, Served, nothing, reads, reads_writes, bytes_after, latest_write, write_accepted, touch_of, touches_of, below_after, fetched_after}
-use Rattle.cache.specs.Promise.{Origin, Taken, Counted, touches, machine_fetches}
+use Rattle.cache.specs.Events.{Event, Each, Took, AsAlone, Asks, Served, nothing, reads, reads_writes, accesses, bytes_after, alone_after, latest_write, read_accepted, write_accepted, touch_of, touches_of, cache_after}
+use Rattle.cache.specs.Promise.{Origin, Begun, Taken, Counted, alone, touches, machine_fetches}
 
--- lists of turns with one more at the end
-pub each_push : (P : List Event → Event → Type 0) (past es : List Event) (e : Event) → Each P past es → P (past ++ es) e → Each P past (es ++ (e ∷ []))
-each_push P past [] e q a = (subst (λ (l : List Event). P l e) (append-nil past) a, tt)
-each_push P past (x ∷ es) e q a =
-    (q.0, each_push P (past ++ (x ∷ [])) es e q.1 (subst (λ (l : List Event). P l e) (sym (append_assoc past (x ∷ []) es)) a))
+module _ {State : Type 0} where
+  -- lists of turns with one more at the end
+  pub each_push : (P : List (Event State) → Event State → Type 0) (past es : List (Event State)) (e : Event State) → Each P past es → P (past ++ es) e →
+      Each P past (es ++ (e ∷ []))
+  each_push P past [] e q a = (subst (λ (l : List (Event State)). P l e) (append-nil past) a, tt)
+  each_push P past (x ∷ es) e q a =
+      (q.0, each_push P (past ++ (x ∷ [])) es e q.1 (subst (λ (l : List (Event State)). P l e) (sym (append_assoc past (x ∷ []) es)) a))
 
-pub below_push : (m : Meaning) (es : List Event) (e : Event) → below_after m (es ++ (e ∷ [])) ≡ e.below
-below_push m [] e = refl
-below_push m (x ∷ es) e = below_push x.below es e
+  pub after_push : (v : View State) (es : List (Event State)) (e : Event State) → cache_after v (es ++ (e ∷ [])) ≡ e.cache
+  after_push v [] e = refl
+  after_push v (x ∷ es) e = after_push x.cache es e
 
-pub fetched_push : (f : ℕ) (es : List Event) (e : Event) → fetched_after f (es ++ (e ∷ [])) ≡ e.fetched
-fetched_push f [] e = refl
-fetched_push f (x ∷ es) e = fetched_push x.fetched es e
+-- a tally with one more, or none
+cut_more : (c : Bool) (n : ℕ) → cond c (raised (min n largest_tally)) (min n largest_tally) ≡ min (n + cond {A = ℕ} c 1 0) largest_tally
+cut_more true n = omega arith
+cut_more false n = omega arith
 
-module _ (m : Meaning) where
-  pub latest_push : (es : List Event) (e : Event) (first : List ℕ) (y : ℕ) →
+module _ {State : Type 0} (m : Meaning) where
+  latest_push : (es : List (Event State)) (e : Event State) (first : List ℕ) (y : ℕ) →
       latest_write m first y (es ++ (e ∷ [])) ≡ cond (write_accepted m e && eqb y e.sector) e.before (latest_write m first y es)
   latest_push [] e first y = refl
   latest_push (x ∷ es) e first y = latest_push es e _ y
 
-  pub touches_push : (pinned : List ℕ) (es : List Event) (e : Event) → touches_of m pinned (es ++ (e ∷ [])) ≡ touches_of m pinned es ++ touch_of m pinned e
+  touches_push : (pinned : List ℕ) (es : List (Event State)) (e : Event State) → touches_of m pinned (es ++ (e ∷ [])) ≡ touches_of m pinned es ++ touch_of m pinned e
   touches_push pinned [] e = append-nil (touch_of m pinned e)
   touches_push pinned (x ∷ es) e = ap (λ ts. touch_of m pinned x ++ ts) (touches_push pinned es e) ∙ sym (append_assoc (touch_of m pinned x) _ _)
 
-  -- the bytes shown after a turn that is served or not
-  pub bytes_step : (es : List Event) (e : Event) (s : Bool) (b b' : ℕ → List ℕ) → s ≡ serves m e.sector (length e.before) → b ≡ bytes_after m es →
-      b' ≡ (λ y. cond ((is_write e.request && s) && eqb y e.sector) e.before (b y)) → b' ≡ bytes_after m (es ++ (e ∷ []))
-  bytes_step es e s b b' es' eb eb' = eb' ∙ rw (es', eb) (fun_ext (λ y. sym (latest_push es e (m.bytes y) y)))
+  -- the disk alone after one turn more
+  pub alone_push : (es : List (Event State)) (e : Event State) → alone_after m (es ++ (e ∷ [])) ≡ after_request e.request (alone_after m es) e.sector e.before
+  alone_push es e =
+      let bytes : bytes_after m (es ++ (e ∷ [])) ≡ (λ y. cond (write_accepted m e && eqb y e.sector) e.before (bytes_after m es y)) =
+      fun_ext (λ y. latest_push es e (m.bytes y) y) in
+      let reads = cut_more (read_accepted m e) (count_by (read_accepted m) es) in
+      let writes = cut_more (write_accepted m e) (count_by (write_accepted m) es) in
+      rw (bytes, sum_by_push (λ d. cond (read_accepted m d) 1 0) es e, sum_by_push (λ d. cond (write_accepted m d) 1 0) es e, ← reads, ← writes)
+      (sym (request_after (alone_after m es) e.request e.sector e.before))
 
--- two disks of the same count and dead sectors answer alike
-pub same_answer : (m n : Meaning) → m.count ≡ n.count → m.dead ≡ n.dead → (x len : ℕ) → answer m x len ≡ answer n x len
-same_answer m n c d x len = rw (c, d)
+  -- the buffer that it gives back
+  buffer_alone : (es : List (Event State)) (q : Request) (x : ℕ) (b : List ℕ) →
+      buffer_request q (alone_after m es) x b ≡ cond (is_read q && serves m x (length b)) (bytes_after m es x) b
+  buffer_alone es Read x b = refl
+  buffer_alone es Write x b = refl
+  buffer_alone es Flush x b = refl
 
--- the buffer of a read is the same where the same is served and shown
-read_same : (q : Request) (x : ℕ) (buffer : List ℕ) {s s' : Bool} {b b' : ℕ → List ℕ} → s ≡ s' → b ≡ b' → cond (is_read q && s) (b x) buffer ≡ cond (is_read q && s') (b' x) buffer
-read_same q x buffer e f = rw (e, f)
+  pub as_alone : (es : List (Event State)) (v : View State) (e : Event State) → seen v ≡ alone_after m es →
+      e.answer ≡ answer_request e.request (answer (seen v) e.sector (length e.before)) → e.after ≡ buffer_request e.request (seen v) e.sector e.before →
+      (e.request ≡ Flush → e.cache.below.bytes ≡ (seen v).bytes) → AsAlone m es e
+  as_alone es v e shows answers fills flushed = record {
+    answers = answers ∙ ap (λ n. answer_request e.request (answer n e.sector (length e.before))) shows;
+    bytes = fills ∙ ap (λ n. buffer_request e.request n e.sector e.before) shows ∙ buffer_alone es e.request e.sector e.before;
+    flushed = λ q. flushed q ∙ ap (λ (n : Meaning). n.bytes) shows;
+  }
 
 -- whether a turn reads or writes, is served, and asks for a sector that is not pinned
-abbrev pub touching : Request → Bool → Bool → Bool
+abbrev touching : Request → Bool → Bool → Bool
 touching q s pinned = ((is_read q && s) || (is_write q && s)) && not pinned
 
-abbrev pub accesses : Request → Bool
-accesses q = is_read q || is_write q
-
 module _ {Setting State : Type 0} (r : Rules Setting State) where
-  -- what a turn e did to a cache v, which then is v'
-  pub record Step (v : View State) (e : Event) (v' : View State) : Type 0 where
-    pub answers : e.answer ≡ answer_request e.request (answer (seen v) e.sector (length e.before))
-    pub bytes : e.after ≡ cond (is_read e.request && serves (seen v) e.sector (length e.before)) ((seen v).bytes e.sector) e.before
-    pub shows : (seen v').bytes ≡ (λ y. cond ((is_write e.request && serves (seen v) e.sector (length e.before)) && eqb y e.sector) e.before ((seen v).bytes y))
-    pub count : v'.below.count ≡ v.below.count
-    pub dead : v'.below.dead ≡ v.below.dead
+  -- what a turn costs
+  record Costs (v : View State) (q : Request) (s p : Bool) (x : ℕ) (v' : View State) : Type 0 where
     pub pinned : pins v'.store ≡ pins v.store
-    pub frames : machine v' ≡ touched r (machine v) (cond (touching e.request (serves (seen v) e.sector (length e.before)) (member e.sector (pins v.store))) (e.sector ∷ []) [])
-    pub counts : v'.fetched ≡ cond (touching e.request (serves (seen v) e.sector (length e.before)) (member e.sector (pins v.store)) && not (member e.sector (framed v.store))) (raised v.fetched) v.fetched
-    pub below : e.below ≡ v'.below
-    pub fetched : e.fetched ≡ v'.fetched
-    pub flushed : e.request ≡ Flush → v'.below.bytes ≡ (seen v).bytes
-    pub few : accesses e.request ≡ true → Served v.below v'.below
-    pub idle : accesses e.request ≡ true → v'.fetched ≤ v.fetched → v.fetched < largest_tally → v'.below ≡ v.below
+    pub frames : machine v' ≡ touched r (machine v) (cond (touching q s p) (x ∷ []) [])
+    pub counts : v'.fetched ≡ cond (touching q s p && not (member x (framed v.store))) (raised v.fetched) v.fetched
+    pub reads : v'.below.reads ≡ cond (touching q s p && not (member x (framed v.store))) (raised v.below.reads) v.below.reads
 
-  -- the fetches of one touch or none
-  fetch_one : (n : Machine State) (b : Bool) (x : ℕ) → fetches r n (cond b (x ∷ []) []) ≡ cond {A = ℕ} (b && not (member x n.keys)) 1 0
-  fetch_one n true x = elim (cases_Bool (member x n.keys)) [ inl k ↦ rw k | inr k ↦ rw k ]
-  fetch_one n false x = refl
+  touched_one : (n n' : Machine State) (s p : Bool) (x : ℕ) → n' ≡ cond (s && not p) (touch r n x) n → n' ≡ touched r n (cond (s && not p) (x ∷ []) [])
+  touched_one n n' true true x e = e
+  touched_one n n' true false x e = e
+  touched_one n n' false p x e = e
 
-  count_one : (c : Bool) (F F' n : ℕ) → F ≡ min n largest_tally → F' ≡ cond c (raised F) F → F' ≡ min (n + cond {A = ℕ} c 1 0) largest_tally
-  count_one true F F' n e q = omega arith
-  count_one false F F' n e q = omega arith
+  -- the reads below after a fetch or none
+  fetched_reads : (v : View State) (c : Bool) (m : Meaning) → m ≡ cond c (fetched_below r v) v.below → m.reads ≡ cond c (raised v.below.reads) v.below.reads
+  fetched_reads v true m e = rw e (elim (cases_Bool (ltb (next_place r v) (used v.store) && (place_at v.store (next_place r v)).dirty)) [ inl k ↦ rw k refl | inr k ↦ rw k refl ])
+  fetched_reads v false m e = ap (λ (n : Meaning). n.reads) e
 
-  -- the frames and F after touches and one more turn
-  frames_step : (n₀ n n' : Machine State) (ts : List ℕ) (b : Bool) (x : ℕ) → n ≡ touched r n₀ ts → n' ≡ touched r n (cond b (x ∷ []) []) →
-      n' ≡ touched r n₀ (ts ++ cond b (x ∷ []) [])
-  frames_step n₀ n n' ts b x e q = q ∙ rw (e, touched_append r n₀ ts (cond b (x ∷ []) []))
+  module _ (v v' : View State) (x len : ℕ) where
+    turned_costs : (q : Request) → is_read q ≡ not (is_write q) → Turned r q v x len v' → Costs v q (serves (seen v) x len) (member x (pins v.store)) x v'
+    turned_costs q one t =
+        let s = serves (seen v) x len in
+        let p = member x (pins v.store) in
+        let is : touching q s p ≡ (s && not p) = elim (cases_Bool (is_write q))
+        [ inl w ↦ rw (one, w) | inr w ↦ rw (one, w) (elim (cases_Bool s) [ inl k ↦ rw k | inr k ↦ rw k ]) ] in
+        record {
+          pinned = t.pinned;
+          frames = rw is (touched_one (machine v) (machine v') s p x t.touches);
+          counts = rw is t.counts;
+          reads = rw is (fetched_reads v (misses r v x len) v'.below t.below);
+        }
 
-  counts_step : (n₀ n : Machine State) (ts : List ℕ) (b : Bool) (x F F' : ℕ) → n ≡ touched r n₀ ts → F ≡ min (fetches r n₀ ts) largest_tally →
-      F' ≡ cond (b && not (member x n.keys)) (raised F) F → F' ≡ min (fetches r n₀ (ts ++ cond b (x ∷ []) [])) largest_tally
-  counts_step n₀ n ts b x F F' e f q =
-      count_one (b && not (member x n.keys)) F F' (fetches r n₀ ts) f q ∙
-      rw (fetches_append r n₀ ts (cond b (x ∷ []) []), ← e, fetch_one n b x)
-
-  -- one turn more
-  taken_more : (o : Origin Setting) (es : List Event) (v v' : View State) (e : Event) → Taken r o es v → Step v e v' → Taken r o (es ++ (e ∷ [])) v'
-  taken_more o es v v' e t s =
-      let m = o.disk in
-      let x = e.sector in
-      let len = length e.before in
-      let same : answer (seen v) x len ≡ answer m x len = same_answer (seen v) m t.count t.dead x len in
-      let serve : serves (seen v) x len ≡ serves m x len = ap is_ok same in
-      let pin : member x (pins v.store) ≡ member x o.pinned = ap (member x) t.pinned in
-      let b : touching e.request (serves (seen v) x len) (member x (pins v.store)) ≡ touching e.request (serves m x len) (member x o.pinned) = rw (serve, pin) in
-      let counts : v'.fetched ≡ min (machine_fetches r o (es ++ (e ∷ []))) largest_tally =
-      rw (touches_push m o.pinned es e, ← b) (counts_step _ (machine v) (touches o es) _ x _ _ t.frames t.counts s.counts) in
-      record {
-        some = t.some;
-        most = t.most;
-        pinned = s.pinned ∙ t.pinned;
-        count = s.count ∙ t.count;
-        dead = s.dead ∙ t.dead;
-        bytes = bytes_step m es e _ _ _ serve t.bytes s.shows;
-        frames = rw (touches_push m o.pinned es e, ← b) (frames_step _ (machine v) _ (touches o es) _ x t.frames s.frames);
-        counts = counts;
-        turnwise = each_push (Counted r o) [] es e t.turnwise (s.fetched ∙ counts);
-        last = sym (fetched_push 0 es e ∙ s.fetched);
-        under = sym (below_push m es e ∙ s.below);
-        answers = each_push (AsAlone m) [] es e t.answers (record {
-          answers = s.answers ∙ ap (answer_request e.request) same;
-          bytes = s.bytes ∙ read_same e.request x e.before serve t.bytes;
-          flushed = λ q. ap (λ (n : Meaning). n.bytes) s.below ∙ s.flushed q ∙ t.bytes;
-        });
-        asks = each_push (Asks m) [] es e t.asks (record {
-          few = λ q. rw (← t.under, s.below) (s.few q);
-          idle = λ q low room. s.below ∙ s.idle q (rw (s.fetched, ← t.last) at low) (rw (← t.last) at room) ∙ t.under;
-        });
-      }
+    costs : (q : Request) → (accesses q ≡ true → Turned r q v x len v') → (q ≡ Flush → Flushed v v') → Costs v q (serves (seen v) x len) (member x (pins v.store)) x v'
+    costs Read t f = turned_costs Read refl (t refl)
+    costs Write t f = turned_costs Write refl (t refl)
+    costs Flush t f = let k = f refl in record { pinned = k.pinned; frames = k.stays; counts = k.fetched; reads = k.reads }
 
   -- the disk below after a turn that is a fetch or none
   served_turn : (v : View State) (c : Bool) (m : Meaning) → m ≡ cond c (fetched_below r v) v.below → Served v.below m
@@ -146,94 +127,117 @@ module _ {Setting State : Type 0} (r : Rules Setting State) where
   idle_turn v true m F F' e q low room = absurd (omega arith)
   idle_turn v false m F F' e q low room = e
 
-  -- a read's touch and count
-  read_frames : (n n' : Machine State) (s p : Bool) (x : ℕ) → n' ≡ cond (s && not p) (touch r n x) n → n' ≡ touched r n (cond ((s || false) && not p) (x ∷ []) [])
-  read_frames n n' true true x e = e
-  read_frames n n' true false x e = e
-  read_frames n n' false p x e = e
-
-  read_counts : (s p f : Bool) (F F' : ℕ) → F' ≡ cond ((s && not p) && not f) (raised F) F → F' ≡ cond (((s || false) && not p) && not f) (raised F) F
-  read_counts true p f F F' e = e
-  read_counts false p f F F' e = e
-
-  write_frames : (n n' : Machine State) (s p : Bool) (x : ℕ) → n' ≡ cond (s && not p) (touch r n x) n → n' ≡ touched r n (cond (s && not p) (x ∷ []) [])
-  write_frames n n' true true x e = e
-  write_frames n n' true false x e = e
-  write_frames n n' false p x e = e
-
-  -- the event of a turn with the cache that it leaves
-  abbrev event : Request → ℕ → List ℕ → List ℕ → Result (Unit {0}) Refusal → View State → Event
-  event q x b b' a v' = record { request = q; sector = x; before = b; after = b'; answer = a; below = v'.below; fetched = v'.fetched }
-
-  module _ (v v' : View State) (x : ℕ) (b : List ℕ) (a : Result (Unit {0}) Refusal) (answers : a ≡ answer (seen v) x (length b)) (turned : Turned r v x (length b) v') where
-    read_step : (b' : List ℕ) → b' ≡ buffer_read (seen v) x b → seen v' ≡ after_read (seen v) x b → Step v (event Read x b b' a v') v'
-    read_step b' fills after =
-        let kept : (c : Bool) (n : Meaning) → n ≡ cond c (read_one (seen v)) (seen v) → (n.bytes ≡ (seen v).bytes) × (n.count ≡ v.below.count) × (n.dead ≡ v.below.dead) =
-        λ c n e. elim (cases_Bool c) [ inl k ↦ rw (e, k) (refl, refl, refl) | inr k ↦ rw (e, k) (refl, refl, refl) ] in
-        let k = kept (serves (seen v) x (length b)) (seen v') after in
-        record {
-          answers = answers;
-          bytes = fills;
-          shows = k.0;
-          count = k.1;
-          dead = k.2;
-          pinned = turned.pinned;
-          frames = read_frames (machine v) (machine v') (serves (seen v) x (length b)) (member x (pins v.store)) x turned.touches;
-          counts = read_counts (serves (seen v) x (length b)) (member x (pins v.store)) (member x (framed v.store)) _ _ turned.counts;
-          below = refl;
-          fetched = refl;
-          flushed = λ q. absurd (true≢false (ap accesses q));
-          few = λ _. served_turn v (misses r v x (length b)) _ turned.below;
-          idle = λ _. idle_turn v (misses r v x (length b)) _ _ _ turned.below turned.counts;
-        }
-
-    write_step : seen v' ≡ after_write (seen v) x b → Step v (event Write x b b a v') v'
-    write_step after =
-        let kept : (c : Bool) (n : Meaning) → n ≡ cond c (written_one (seen v) x b) (seen v) → (n.bytes ≡ (λ y. cond (c && eqb y x) b ((seen v).bytes y))) × (n.count ≡ v.below.count) × (n.dead ≡ v.below.dead) =
-        λ c n e. elim (cases_Bool c) [ inl k ↦ rw (e, k) (refl, refl, refl) | inr k ↦ rw (e, k) (refl, refl, refl) ] in
-        let k = kept (serves (seen v) x (length b)) (seen v') after in
-        record {
-          answers = answers;
-          bytes = refl;
-          shows = k.0;
-          count = k.1;
-          dead = k.2;
-          pinned = turned.pinned;
-          frames = write_frames (machine v) (machine v') (serves (seen v) x (length b)) (member x (pins v.store)) x turned.touches;
-          counts = turned.counts;
-          below = refl;
-          fetched = refl;
-          flushed = λ q. absurd (true≢false (ap accesses q));
-          few = λ _. served_turn v (misses r v x (length b)) _ turned.below;
-          idle = λ _. idle_turn v (misses r v x (length b)) _ _ _ turned.below turned.counts;
-        }
-
-  flush_step : (v v' : View State) (x : ℕ) (b : List ℕ) → Flushed v v' → Step v (event Flush x b b (Ok tt) v') v'
-  flush_step v v' x b f = record {
-    answers = refl;
-    bytes = refl;
-    shows = ap (λ (n : Meaning). n.bytes) f.shows;
-    count = ap (λ (n : Meaning). n.count) f.shows;
-    dead = ap (λ (n : Meaning). n.dead) f.shows;
-    pinned = f.pinned;
-    frames = f.stays;
-    counts = f.fetched;
-    below = refl;
-    fetched = refl;
-    flushed = λ _. f.bytes;
-    few = λ q. absurd (true≢false (sym q));
-    idle = λ q. absurd (true≢false (sym q));
+  asks_of : (v : View State) (e : Event State) → Took r v e → Asks v e
+  asks_of v e k = record {
+    few = λ a. served_turn v (misses r v e.sector (length e.before)) e.cache.below (k.turned a).below;
+    idle = λ a low room. idle_turn v (misses r v e.sector (length e.before)) e.cache.below v.fetched e.cache.fetched (k.turned a).below (k.turned a).counts low room;
+    flush_reads = λ f. (k.flushed f).reads;
+    flush_writes = λ f. (k.flushed f).writes;
   }
 
+  -- the fetches of one touch or none
+  fetch_one : (n : Machine State) (b : Bool) (x : ℕ) → fetches r n (cond b (x ∷ []) []) ≡ cond {A = ℕ} (b && not (member x n.keys)) 1 0
+  fetch_one n true x = elim (cases_Bool (member x n.keys)) [ inl k ↦ rw k | inr k ↦ rw k ]
+  fetch_one n false x = refl
+
+  count_one : (c : Bool) (a F F' n : ℕ) → F ≡ min (a + n) largest_tally → F' ≡ cond c (raised F) F → F' ≡ min (a + (n + cond {A = ℕ} c 1 0)) largest_tally
+  count_one true a F F' n e q = omega arith
+  count_one false a F F' n e q = omega arith
+
+  module _ (n₀ n : Machine State) (ts : List ℕ) (b : Bool) (x : ℕ) (is : n ≡ touched r n₀ ts) where
+    -- the frames after touches and one more turn, and what is raised at each fetch, from a number on
+    frames_more : (n' : Machine State) → n' ≡ touched r n (cond b (x ∷ []) []) → n' ≡ touched r n₀ (ts ++ cond b (x ∷ []) [])
+    frames_more n' q = q ∙ rw (is, touched_append r n₀ ts (cond b (x ∷ []) []))
+
+    count_more : (a F F' : ℕ) → F ≡ min (a + fetches r n₀ ts) largest_tally → F' ≡ cond (b && not (member x n.keys)) (raised F) F →
+        F' ≡ min (a + fetches r n₀ (ts ++ cond b (x ∷ []) [])) largest_tally
+    count_more a F F' f q =
+        count_one (b && not (member x n.keys)) a F F' (fetches r n₀ ts) f q ∙
+        rw (fetches_append r n₀ ts (cond b (x ∷ []) []), ← is, fetch_one n b x)
+
+  module _ (o : Origin Setting State) where
+    -- what holds of a cache v that has taken some turns
+    pub record Facts (es : List (Event State)) (v : View State) : Type 0 where
+      pub shows : seen v ≡ alone_after (alone o) es
+      pub pinned : pins v.store ≡ pins o.cache.store
+      pub frames : machine v ≡ touched r (start r o.setting o.frames) (touches o es)
+      pub counts : v.fetched ≡ min (machine_fetches r o es) largest_tally
+      pub reads : v.below.reads ≡ min ((alone o).reads + machine_fetches r o es) largest_tally
+      pub turnwise : Each (Counted r o) [] es
+      pub answers : Each (AsAlone (alone o)) [] es
+      pub asks : Each (λ past e. Asks (cache_after o.cache past) e) [] es
+
+    facts_none : Begun r o → Facts [] o.cache
+    facts_none b = record {
+      shows = rw (b.bytes, b.tallies.0, b.tallies.1);
+      pinned = refl;
+      frames = rw (b.first, b.unfilled);
+      counts = b.counts;
+      reads = (let k = b.reads in omega arith);
+      turnwise = tt;
+      answers = tt;
+      asks = tt;
+    }
+
+    facts_more : (es : List (Event State)) (v : View State) (e : Event State) → v ≡ cache_after o.cache es → Facts es v → Took r v e → Facts (es ++ (e ∷ [])) e.cache
+    facts_more es v e is f k =
+        let m = alone o in
+        let x = e.sector in
+        let len = length e.before in
+        let n₀ = start r o.setting o.frames in
+        let serve : serves (seen v) x len ≡ serves m x len = ap (λ n. serves n x len) f.shows in
+        let c = rw (serve, f.pinned) at (costs v e.cache x len e.request k.turned k.flushed) in
+        let b = touching e.request (serves m x len) (member x (pins o.cache.store)) in
+        let more = touches_push m (pins o.cache.store) es e in
+        let low = count_more n₀ (machine v) (touches o es) b x f.frames 0 v.fetched e.cache.fetched (let q = f.counts in omega arith) c.counts in
+        let counts : e.cache.fetched ≡ min (machine_fetches r o (es ++ (e ∷ []))) largest_tally = rw more (omega (arith, low)) in
+        record {
+          shows = k.shows ∙ rw f.shows (sym (alone_push m es e));
+          pinned = c.pinned ∙ f.pinned;
+          frames = rw more (frames_more n₀ (machine v) (touches o es) b x f.frames (machine e.cache) c.frames);
+          counts = counts;
+          reads = rw more (count_more n₀ (machine v) (touches o es) b x f.frames m.reads v.below.reads e.cache.below.reads f.reads c.reads);
+          turnwise = each_push (Counted r o) [] es e f.turnwise counts;
+          answers = each_push (AsAlone m) [] es e f.answers (as_alone m es v e f.shows k.answers k.fills (λ q. (k.flushed q).bytes));
+          asks = each_push (λ past d. Asks (cache_after o.cache past) d) [] es e f.asks (rw is at (asks_of v e k));
+        }
+
+    -- turn by turn
+    facts_all : (past es : List (Event State)) → Facts past (cache_after o.cache past) → Each (λ us e. Took r (cache_after o.cache us) e) past es →
+        Facts (past ++ es) (cache_after o.cache (past ++ es))
+    facts_all past [] f s = rw (append-nil past) f
+    facts_all past (e ∷ es) f s =
+        let g = facts_more past (cache_after o.cache past) e refl f s.0 in
+        rw (append_assoc past (e ∷ []) es) at (facts_all (past ++ (e ∷ [])) es (rw (after_push o.cache past e) g) s.1)
+
+    pub facts_of : (es : List (Event State)) (v : View State) → Taken r o es v → Facts es v
+    facts_of es v t = rw t.last (facts_all [] es (facts_none t.begun) t.steps)
+
+    -- one turn more
+    taken_push : (es : List (Event State)) (v : View State) (e : Event State) → Taken r o es v → Took r v e → Taken r o (es ++ (e ∷ [])) e.cache
+    taken_push es v e t k = record {
+      begun = t.begun;
+      steps = each_push (λ past d. Took r (cache_after o.cache past) d) [] es e t.steps (rw t.last at k);
+      last = sym (after_push o.cache es e);
+    }
+
+  -- the event of a turn with the cache that it leaves
+  abbrev event : Request → ℕ → List ℕ → List ℕ → Result (Unit {0}) Refusal → View State → Event State
+  event q x b b' a v' = record { request = q; sector = x; before = b; after = b'; answer = a; cache = v' }
+
   -- a read, a write and a flush, behind the turns taken before
-  module _ (v v' : View State) (x : ℕ) (b : List ℕ) (a : Result (Unit {0}) Refusal) (answers : a ≡ answer (seen v) x (length b)) (turned : Turned r v x (length b) v') where
-    pub read_taken : (b' : List ℕ) → b' ≡ buffer_read (seen v) x b → seen v' ≡ after_read (seen v) x b →
-        (o : Origin Setting) (es : List Event) → Taken r o es v → Taken r o (es ++ (event Read x b b' a v' ∷ [])) v'
-    read_taken b' fills after o es t = taken_more o es v v' _ t (read_step v v' x b a answers turned b' fills after)
+  module _ (v v' : View State) (x : ℕ) (b : List ℕ) where
+    pub read_taken : (a : Result (Unit {0}) Refusal) (b' : List ℕ) → a ≡ answer (seen v) x (length b) → Turned r Read v x (length b) v' →
+        b' ≡ buffer_read (seen v) x b → seen v' ≡ after_read (seen v) x b →
+        (o : Origin Setting State) (es : List (Event State)) → Taken r o es v → Taken r o (es ++ (event Read x b b' a v' ∷ [])) v'
+    read_taken a b' answers turned fills after o es t = taken_push o es v (event Read x b b' a v') t
+        (record { answers = answers; fills = fills; shows = after; turned = λ _. turned; flushed = λ q. absurd (true≢false (ap accesses q)) })
 
-    pub write_taken : seen v' ≡ after_write (seen v) x b → (o : Origin Setting) (es : List Event) → Taken r o es v → Taken r o (es ++ (event Write x b b a v' ∷ [])) v'
-    write_taken after o es t = taken_more o es v v' _ t (write_step v v' x b a answers turned after)
+    pub write_taken : (a : Result (Unit {0}) Refusal) → a ≡ answer (seen v) x (length b) → Turned r Write v x (length b) v' → seen v' ≡ after_write (seen v) x b →
+        (o : Origin Setting State) (es : List (Event State)) → Taken r o es v → Taken r o (es ++ (event Write x b b a v' ∷ [])) v'
+    write_taken a answers turned after o es t = taken_push o es v (event Write x b b a v') t
+        (record { answers = answers; fills = refl; shows = after; turned = λ _. turned; flushed = λ q. absurd (true≢false (ap accesses q)) })
 
-  pub flush_taken : (v v' : View State) (x : ℕ) (b : List ℕ) → Flushed v v' → (o : Origin Setting) (es : List Event) → Taken r o es v →
-      Taken r o (es ++ (event Flush x b b (Ok tt) v' ∷ [])) v'
-  flush_taken v v' x b f o es t = taken_more o es v v' _ t (flush_step v v' x b f)
+    pub flush_taken : Flushed v v' → (o : Origin Setting State) (es : List (Event State)) → Taken r o es v → Taken r o (es ++ (event Flush x b b (Ok tt) v' ∷ [])) v'
+    flush_taken f o es t = taken_push o es v (event Flush x b b (Ok tt) v') t
+        (record { answers = refl; fills = refl; shows = f.shows; turned = λ q. absurd (true≢false (sym q)); flushed = λ _. f })

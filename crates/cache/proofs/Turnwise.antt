@@ -1,28 +1,30 @@
 -- A list of turns, one after another.
-use Rattle.std.proofs.Common.{◌≡◌, ℕ, ◌+◌, ◌<◌, ◌≤◌, List, [], ◌∷◌, ◌++◌, length, get_or, take, drop, set, Some, refl, ap, ◌∙◌, arith}
+use Rattle.std.proofs.Common.{◌≡◌, ℕ, ◌+◌, ◌<◌, ◌≤◌, Bool, cond, List, [], ◌∷◌, ◌++◌, length, count_by, get_or, take, drop, set, Some, sym, refl, ap, ◌∙◌, zero-add, arith}
+use mathlib.Core.Path.{fun_ext}
+use Rattle.std.proofs.lemmas.List.Sums.{sum_by-cons}
 use Rattle.std.proofs.lemmas.List.{take_more, take_more_set, drop_more, drop-set-lt, length-set, take_all}
 use Rattle.disk.specs.declared.turn.Turn.{Turn}
 use Rattle.disk.specs.declared.disk.Disk as disks
 use Rattle.policy.specs.declared.policy.Policy as policies
 use Rattle.cache.specs.declared.cache.Cache.{Cache}
 use Rattle.disk.specs.Meaning.{Meaning}
-use Rattle.disk.specs.Turns.{latest, Answered, AllAnswered}
-use Rattle.cache.specs.Events.{Event, Each, AsAlone, latest_write}
+use Rattle.disk.specs.Turns.{latest, reads_in, writes_in, Answered, AllAnswered, after_turns}
+use Rattle.cache.specs.Events.{Event, Each, AsAlone, latest_write, bytes_after, alone_after, read_accepted, write_accepted}
 use Rattle.cache.specs.Promise.{Origin, Taken}
 use Rattle.cache.specs.Reading.{view}
-use Rattle.cache.specs.Runs.{Report, Reported, done, more, TakesTurn}
+use Rattle.cache.specs.Runs.{Report, Reported, done, more, unserved, TakesTurn}
 
-reported_push : {ts ts' : List Turn} {es : List Event} {t t' : Turn} {e : Event} → Reported ts ts' es → Report t t' e → Reported (ts ++ (t ∷ [])) (ts' ++ (t' ∷ [])) (es ++ (e ∷ []))
+reported_push : {State : Type 0} {ts ts' : List Turn} {es : List (Event State)} {t t' : Turn} {e : Event State} → Reported ts ts' es → Report t t' e → Reported (ts ++ (t ∷ [])) (ts' ++ (t' ∷ [])) (es ++ (e ∷ []))
 reported_push done q = more q done
 reported_push (more p rest) q = more p (reported_push rest q)
 
 -- turns whose events are those of the disk alone are answered as it answers them
-module _ (m : Meaning) where
-  latest_same : {us us' : List Turn} {es : List Event} → Reported us us' es → (first : List ℕ) (x : ℕ) → latest m first x us ≡ latest_write m first x es
+module _ {State : Type 0} (m : Meaning) where
+  latest_same : {us us' : List Turn} {es : List (Event State)} → Reported us us' es → (first : List ℕ) (x : ℕ) → latest m first x us ≡ latest_write m first x es
   latest_same done first x = refl
   latest_same (more q rest) first x = rw (q.asked, q.of, q.before) (latest_same rest _ x)
 
-  answered : {us us' : List Turn} {past : List Event} {t t' : Turn} {e : Event} → Reported us us' past → Report t t' e → AsAlone m past e → Answered m us t t'
+  answered : {us us' : List Turn} {past : List (Event State)} {t t' : Turn} {e : Event State} → Reported us us' past → Report t t' e → AsAlone m past e → Answered m us t t'
   answered {t = t} p q a =
       let l = latest_same p (m.bytes t.sector) t.sector in
       record {
@@ -33,18 +35,33 @@ module _ (m : Meaning) where
         answers = q.answer ∙ ap Some (a.answers ∙ rw (q.asked, q.of, q.before));
       }
 
-  pub all_alone : {us us' ts ts' : List Turn} {past es : List Event} → Reported us us' past → Reported ts ts' es → Each (AsAlone m) past es → AllAnswered m us ts ts'
+  pub all_alone : {us us' ts ts' : List Turn} {past es : List (Event State)} → Reported us us' past → Reported ts ts' es → Each (AsAlone m) past es → AllAnswered m us ts ts'
   all_alone p done a = tt
-  all_alone p (more q rest) a = (answered p q a.0, all_alone (reported_push p q) rest a.1)
+  all_alone {us = us} {us' = us'} {past = past} p (more {t = t} {t' = t'} {e = e} {ts = ts} {ts' = ts'} {es = es} q rest) a =
+      (answered p q a.0, all_alone {us = us ++ (t ∷ [])} {us' = us' ++ (t' ∷ [])} (reported_push p q) rest a.1)
+
+  -- and the disk alone is after the turns what it is after the events
+  counted_same : {ts ts' : List Turn} {es : List (Event State)} (p : Turn → Bool) (q : Event State → Bool) →
+      ((t t' : Turn) (e : Event State) → Report t t' e → p t ≡ q e) → Reported ts ts' es → count_by p ts ≡ count_by q es
+  counted_same p q same done = refl
+  counted_same p q same (more {t = t} {t' = t'} {e = e} {ts = ts} {ts' = ts'} {es = es} k rest) =
+      sum_by-cons (λ s. cond (p s) 1 0) t ts ∙ rw (same t t' e k, counted_same p q same rest) (sym (sum_by-cons (λ s. cond (q s) 1 0) e es))
+
+  pub alone_turns : {ts ts' : List Turn} {es : List (Event State)} → Reported ts ts' es → alone_after m es ≡ after_turns (unserved m) ts
+  alone_turns {ts = ts} {es = es} k =
+      let bytes : bytes_after m es ≡ (λ x. latest m (m.bytes x) x ts) = fun_ext (λ x. sym (latest_same k (m.bytes x) x)) in
+      let reads : count_by (reads_in m) ts ≡ count_by (read_accepted m) es = counted_same (reads_in m) (read_accepted m) (λ t t' e q. rw (q.asked, q.of, q.before)) k in
+      let writes : count_by (writes_in m) ts ≡ count_by (write_accepted m) es = counted_same (writes_in m) (write_accepted m) (λ t t' e q. rw (q.asked, q.of, q.before)) k in
+      rw (bytes, reads, writes, zero-add, zero-add)
 
 module _ {D P Setting : Type 0} (d : disks.Ghosts D) (p : policies.Ghosts P Setting) where
   -- what holds once a cache, at first c₀, has taken i turns of the list us, which is now ts
   pub record Taking (c₀ : Cache D P) (us ts : List Turn) (i : ℕ) (c : Cache D P) : Type 0 where
     pub rest : drop i ts ≡ drop i us
     pub long : length ts ≡ length us
-    pub events : List Event
+    pub events : List (Event p.State)
     pub reported : Reported (take i us) (take i ts) events
-    pub takes : (o : Origin Setting) → Taken p.rules o [] (view d p c₀) → Taken p.rules o events (view d p c)
+    pub takes : (o : Origin Setting p.State) → Taken p.rules o [] (view d p c₀) → Taken p.rules o events (view d p c)
 
   pub taking_none : (c₀ : Cache D P) (us : List Turn) → Taking c₀ us us 0 c₀
   taking_none c₀ us = record { rest = refl; long = refl; events = []; reported = done; takes = λ o t. t }

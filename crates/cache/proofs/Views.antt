@@ -1,5 +1,5 @@
 -- Views: each step keeps them sound, and what it does to what they show.
-use Rattle.std.proofs.Common.{◌≡◌, ℕ, ◌+◌, ◌-◌, ◌<◌, ◌≤◌, true, false, cond, not, ◌&&◌, ◌||◌, eqb, ltb, List, length, is_ok, Some, Ok, Result, sym, refl, ap, ◌∙◌, subst, inl, inr, arith}
+use Rattle.std.proofs.Common.{◌≡◌, ℕ, ◌+◌, ◌-◌, ◌<◌, ◌≤◌, Bool, true, false, cond, not, ◌&&◌, ◌||◌, eqb, ltb, List, length, is_ok, Some, Ok, Result, sym, refl, ap, ◌∙◌, subst, inl, inr, arith}
 use Rattle.std.proofs.lemmas.Bool.{cases_Bool, cases_lt, lt-ltb, le-ltb, ltb-true, ltb-false, or_parts, true≢false}
 use Rattle.std.proofs.lemmas.Option.{cond_some}
 use Rattle.base.specs.Lists.{member, place_in}
@@ -8,11 +8,12 @@ use Rattle.policy.specs.Machine.{Rules, put, touch, fetch}
 use Rattle.policy.specs.Shape.{placed, used, Shape}
 use Rattle.disk.specs.Meaning.{Meaning, Sized, answer, serves, raised, written_one}
 use Rattle.disk.proofs.Served.{live_served, answer_live}
-use Rattle.cache.specs.Places.{used as in_use, place_at, held, pins, framed, found, installed}
+use Rattle.cache.specs.Places.{used as in_use, place_at, held, pins, framed, found, installed, is_dirty}
 use Rattle.cache.specs.View.{View, Sound, seen, machine}
 use Rattle.cache.specs.Steps.{used_frame, used_view, placed_view, looked_view, vacated_view, fetched_view, touched_view, next_place, place_of, with_place}
-use Rattle.cache.specs.Requests.{fetched_below}
+use Rattle.cache.specs.Requests.{fetched_below, puts_out}
 use Rattle.cache.proofs.Keys.{member_cut, place_front, place_back, put_back, put_front}
+use Rattle.cache.proofs.Dirty.{has_sector, and_true, installed_dirty, cleaned_still}
 use Rattle.cache.proofs.Stores.{Absent, HeldAt, held_length, absent_from, at_place, cleaned_used, cleaned_held, cleaned_at, cleaned_holds, cleaned_shows, replaced_other, installed_used, installed_holds, installed_shows, installed_held, used_f, sector_f}
 
 -- two disks of one shape that show the same
@@ -67,6 +68,7 @@ module _ {Setting State : Type 0} (r : Rules Setting State) (shape : Shape r) wh
         placing = record { reached = used p.reached f k; most = omega arith; few = p.few; filled = omega arith };
         holding = s.holding;
         sizes = s.sizes;
+        tallied = s.tallied;
       }
 
   -- what holds of a view w that is v with place p vacated for x
@@ -82,6 +84,7 @@ module _ {Setting State : Type 0} (r : Rules Setting State) (shape : Shape r) wh
     pub fetched : w.fetched ≡ v.fetched
     pub below : w.below ≡ cond (ltb p (in_use v.store) && (place_at v.store p).dirty) (written_one v.below (place_at v.store p).sector (place_at v.store p).block) v.below
     pub clean : p < in_use w.store → (place_at w.store p).dirty ≡ false
+    pub dirty : (y : ℕ) → (is_dirty w.store y && not (has_sector w.store p y)) ≡ (is_dirty v.store y && not (has_sector v.store p y))
 
   pub vacated_is : (v : View State) (p x : ℕ) → Sound r v → Absent v.store x → Vacated v (vacated_view v p) p x
   vacated_is v p x s none = elim (cases_Bool (ltb p (in_use v.store))) [
@@ -91,7 +94,9 @@ module _ {Setting State : Type 0} (r : Rules Setting State) (shape : Shape r) wh
           placing = rw (cleaned_used v.store p) s.placing;
           holding = cleaned_holds v.store s.holding p low;
           sizes = written_sized v.below _ _ s.sizes (s.holding.sized p low);
+          tallied = (s.tallied.0, omega arith);
         };
+        dirty = λ y. cleaned_still v.store p low s.holding.apart y;
         shows = same_meaning (seen v) _ (cleaned_shows v.store s.holding p low);
         policy = refl;
         holds = cleaned_held v.store p;
@@ -103,7 +108,7 @@ module _ {Setting State : Type 0} (r : Rules Setting State) (shape : Shape r) wh
         bytes = replaced_other v.below.bytes _ x _ (λ k. none p low (sym k));
         clean = λ h. cleaned_at v.store p low;
       })
-      | inr d ↦ rw (e, d) (record { sound = s; shows = refl; policy = refl; holds = refl; pinned = refl; count = refl; dead = refl; bytes = refl; fetched = refl; below = rw (e, d); clean = λ h. d })
+      | inr d ↦ rw (e, d) (record { sound = s; shows = refl; policy = refl; holds = refl; pinned = refl; count = refl; dead = refl; bytes = refl; fetched = refl; below = rw (e, d); clean = λ h. d; dirty = λ y. refl })
     ]
     | inr e ↦ rw e (record {
       sound = s;
@@ -117,6 +122,7 @@ module _ {Setting State : Type 0} (r : Rules Setting State) (shape : Shape r) wh
       fetched = refl;
       below = rw e;
       clean = λ h. let q = ltb-false p (in_use v.store) e in absurd (omega arith);
+      dirty = λ y. refl;
     })
   ]
 
@@ -135,6 +141,7 @@ module _ {Setting State : Type 0} (r : Rules Setting State) (shape : Shape r) wh
           placing = record { reached = placed q.reached; most = omega arith; few = q.few; filled = rw (installed_used w.store s.holding x p none next, is) (placed_filled w s) };
           holding = installed_holds w.store s.holding x p none next inside live sized;
           sizes = s.sizes;
+          tallied = s.tallied;
         }
 
     pub placed_shows : seen (placed_view r w p x (w.below.bytes x)) ≡ seen w
@@ -152,6 +159,9 @@ module _ {Setting State : Type 0} (r : Rules Setting State) (shape : Shape r) wh
     pub placed_at : HeldAt (placed_view r w p x (w.below.bytes x)).store x p
     placed_at = (used_f w.store s.holding x p none next, sector_f w.store s.holding x p none next)
 
+    pub placed_dirty : (y : ℕ) → is_dirty (placed_view r w p x (w.below.bytes x)).store y ≡ (is_dirty w.store y && not (has_sector w.store p y))
+    placed_dirty = installed_dirty w.store s.holding x p none next placed_sound.holding.apart
+
   -- what holds of a view w that is v after a fetch of x into place p
   pub record Fetched (v w : View State) (p x : ℕ) : Type 0 where
     pub sound : Sound r w
@@ -161,6 +171,7 @@ module _ {Setting State : Type 0} (r : Rules Setting State) (shape : Shape r) wh
     pub at : HeldAt w.store x p
     pub counts : w.fetched ≡ raised v.fetched
     pub below : w.below ≡ fetched_below r v
+    pub dirty : (y : ℕ) → is_dirty w.store y ≡ (is_dirty v.store y && not (puts_out r v y))
 
   pub fetched_facts : (v : View State) (x : ℕ) → Sound r v → member x (held v.store) ≡ false → serves v.below x 512 ≡ true →
       Fetched v (fetched_view r v x) (next_place r v) x
@@ -169,7 +180,7 @@ module _ {Setting State : Type 0} (r : Rules Setting State) (shape : Shape r) wh
       let none = absent_from v.store x out in
       let u = looked_view v in
       let w = vacated_view u p in
-      let q : Vacated u w p x = vacated_is u p x (record { placing = s.placing; holding = s.holding; sizes = s.sizes }) none in
+      let q : Vacated u w p x = vacated_is u p x (record { placing = s.placing; holding = s.holding; sizes = s.sizes; tallied = (omega arith, s.tallied.1) }) none in
       let l = live_served v.below x 512 served in
       let inside : x < w.below.count = rw q.count l.inside in
       let live : w.below.dead x ≡ false = rw q.dead l.live in
@@ -186,7 +197,12 @@ module _ {Setting State : Type 0} (r : Rules Setting State) (shape : Shape r) wh
         at = placed_at w x p q.sound none' is inside live sized q.clean;
         counts = ap raised q.fetched;
         below = q.below;
+        dirty = λ y. placed_dirty w x p q.sound none' is inside live sized q.clean y ∙ q.dirty y;
       })
+
+  -- whether an access to x makes a fetch
+  abbrev fetches_for : View State → ℕ → Bool
+  fetches_for v x = (serves v.below x 512 && not (member x (pins v.store))) && not (member x (framed v.store))
 
   -- what holds of a view w that is v after an access to x
   pub record Touched (v w : View State) (x : ℕ) : Type 0 where
@@ -195,8 +211,10 @@ module _ {Setting State : Type 0} (r : Rules Setting State) (shape : Shape r) wh
     pub pinned : pins w.store ≡ pins v.store
     pub touches : machine w ≡ cond (serves v.below x 512 && not (member x (pins v.store))) (touch r (machine v) x) (machine v)
     pub at : serves v.below x 512 ≡ true → HeldAt w.store x (place_of r v x)
-    pub counts : w.fetched ≡ cond ((serves v.below x 512 && not (member x (pins v.store))) && not (member x (framed v.store))) (raised v.fetched) v.fetched
-    pub below : w.below ≡ cond ((serves v.below x 512 && not (member x (pins v.store))) && not (member x (framed v.store))) (fetched_below r v) v.below
+    pub counts : w.fetched ≡ cond (fetches_for v x) (raised v.fetched) v.fetched
+    pub below : w.below ≡ cond (fetches_for v x) (fetched_below r v) v.below
+    pub dirty : (y : ℕ) → is_dirty w.store y ≡ (is_dirty v.store y && not (fetches_for v x && puts_out r v y))
+    pub refused : serves v.below x 512 ≡ false → w ≡ v
 
   module _ (v : View State) (x : ℕ) (s : Sound r v) where
     abbrev cut : Type 0
@@ -235,6 +253,8 @@ module _ {Setting State : Type 0} (r : Rules Setting State) (shape : Shape r) wh
           at = λ _. rw e (at_place v.store x e);
           counts = rw (k, q);
           below = rw (k, q);
+          dirty = λ y. rw (k, q) (sym (and_true _ _ refl));
+          refused = λ n. absurd (true≢false (sym k ∙ n));
         })
 
     hit_frame : member x (held v.store) ≡ true → member x (pins v.store) ≡ false → Touched v (used_view r v (place_in x (held v.store))) x
@@ -252,6 +272,8 @@ module _ {Setting State : Type 0} (r : Rules Setting State) (shape : Shape r) wh
           at = λ _. rw e (at_place v.store x e);
           counts = rw (k, q, m);
           below = rw (k, q, m);
+          dirty = λ y. rw (k, q, m) (sym (and_true _ _ refl));
+          refused = λ n. absurd (true≢false (sym k ∙ n));
         })
 
     miss : member x (held v.store) ≡ false → serves v.below x 512 ≡ true → Touched v (fetched_view r v x) x
@@ -266,6 +288,8 @@ module _ {Setting State : Type 0} (r : Rules Setting State) (shape : Shape r) wh
           at = λ _. rw e q.at;
           counts = rw (k, o.0, o.1) q.counts;
           below = rw (k, o.0, o.1) q.below;
+          dirty = λ y. rw (k, o.0, o.1) (q.dirty y);
+          refused = λ n. absurd (true≢false (sym k ∙ n));
         }
 
     pub touched_facts : Touched v (touched_view r v x) x
@@ -281,6 +305,8 @@ module _ {Setting State : Type 0} (r : Rules Setting State) (shape : Shape r) wh
           at = λ n. absurd (true≢false (sym n ∙ k));
           counts = rw k;
           below = rw k;
+          dirty = λ y. rw k (sym (and_true _ _ refl));
+          refused = λ n. refl;
         })
       ]
     ]

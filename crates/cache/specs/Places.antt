@@ -1,5 +1,5 @@
 -- The places of a store, and what is done to them. Assumes nothing.
-use Rattle.std.specs.Prelude.{ℕ, ◌+◌, true, false, cond, List, [], ◌∷◌, ◌++◌, map, length, take, drop}
+use Rattle.std.specs.Prelude.{◌≡◌, ℕ, ◌+◌, ◌<◌, Bool, true, false, cond, List, [], ◌∷◌, ◌++◌, map, filter, length, take, drop}
 use Rattle.std.specs.Prelude.{Some, None, Option, nat_lt, slice_index_or, slice_set}
 use Rattle.arrayvec.specs.ArrayVec.{array_vec_len, with_item}
 use Rattle.base.specs.Lists.{member, place_in}
@@ -27,6 +27,17 @@ pins s = take s.pinned (held s)
 
 abbrev pub framed : Store → List ℕ
 framed s = drop s.pinned (held s)
+
+-- the sectors that are held and dirty, place by place, and whether one is
+abbrev pub dirty : Store → List ℕ
+dirty s = map (λ (p : Place). p.sector) (filter (λ (p : Place). p.dirty) s.places.items)
+
+abbrev pub is_dirty : Store → ℕ → Bool
+is_dirty s x = member x (dirty s)
+
+-- no two places hold one sector, so that no pinned sector is in a frame
+abbrev pub HeldOnce : Store → Type 0
+HeldOnce s = (i j : ℕ) → i < used s → j < used s → (place_at s i).sector ≡ (place_at s j).sector → i ≡ j
 
 -- where a sector stands in a list
 abbrev pub found : List ℕ → ℕ → Option ℕ

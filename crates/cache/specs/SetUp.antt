@@ -1,5 +1,5 @@
 -- A cache that is set up: what holds of it, what a pin does, and what it is once started. Assumes nothing.
-use Rattle.std.specs.Prelude.{◌≡◌, ℕ, ◌<◌, true, false, cond, List, [], ◌∷◌, ◌++◌, length, is_ok, Ok, Err, Result, nat_lt}
+use Rattle.std.specs.Prelude.{◌≡◌, ℕ, true, false, cond, List, [], ◌∷◌, ◌++◌, length, is_ok, Ok, Err, Result, nat_lt}
 use Rattle.base.specs.declared.refusal.Refusal.{Refusal}
 use Rattle.base.specs.declared.refusal.Refusal.TheVariants.{NoSuchSector, AlreadyPinned, PinPlacesTaken, DeadSector}
 use Rattle.base.specs.Geometries.{frames_of}
@@ -9,7 +9,7 @@ use Rattle.disk.specs.declared.disk.Disk as disks
 use Rattle.policy.specs.declared.policy.Policy as policies
 use Rattle.cache.specs.declared.set_up.SetUpCache.{SetUpCache}
 use Rattle.cache.specs.declared.cache.Cache.{Cache}
-use Rattle.cache.specs.Places.{used, place_at, pins}
+use Rattle.cache.specs.Places.{used, dirty, pins}
 use Rattle.cache.specs.View.{View, Sound, seen}
 use Rattle.cache.specs.Promise.{Origin, Taken}
 use Rattle.cache.specs.Reading.{view}
@@ -29,6 +29,7 @@ pub record Pinned {State : Type 0} (v : View State) (places x : ℕ) (answer : R
   pub pinned : is_ok answer ≡ true → pins v'.store ≡ pins v.store ++ (x ∷ [])
   pub below : is_ok answer ≡ true → v'.below ≡ read_one v.below
   pub policy : v'.policy ≡ v.policy
+  pub marks : dirty v'.store ≡ dirty v.store
 
 module _ {D P Setting : Type 0} (d : disks.Ghosts D) (p : policies.Ghosts P Setting) where
   -- a cache that is set up, read as one that has served nothing
@@ -46,11 +47,11 @@ module _ {D P Setting : Type 0} (d : disks.Ghosts D) (p : policies.Ghosts P Sett
     pub setting : Setting
     pub first : FirstState s setting
     pub unfilled : used s.store ≡ s.store.pinned
-    pub clean : (i : ℕ) → i < used s.store → (place_at s.store i).dirty ≡ false
+    pub clean : dirty s.store ≡ []
 
   -- what a cache is started with
-  abbrev pub origin : SetUpCache D P → Setting → Origin Setting
-  origin s setting = record { disk = d.meaning s.below; pinned = pins s.store; frames = frames_of s.geometry; setting = setting }
+  abbrev pub origin : SetUpCache D P → Setting → Origin Setting p.State
+  origin s setting = record { cache = set_up_view s; frames = frames_of s.geometry; setting = setting }
 
   -- A cache c that s was moved into by its start: the same disk, with F and its own tallies at 0, and no turns taken.
   pub record Begins (s : SetUpCache D P) (c : Cache D P) : Type 0 where

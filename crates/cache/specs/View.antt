@@ -1,11 +1,11 @@
 -- A cache with the disk below and the policy by their meanings, and what holds of it between calls. Assumes nothing.
 use Rattle.std.specs.Prelude.{◌≡◌, ℕ, ◌+◌, ◌<◌, ◌≤◌, Bool, false, cond, List, length}
-use Rattle.disk.specs.Meaning.{Meaning, Sized}
+use Rattle.disk.specs.Meaning.{Meaning, Sized, Tallied}
 use Rattle.base.specs.Lists.{member, place_in}
 use Rattle.policy.specs.Machine.{Rules, Machine}
 use Rattle.policy.specs.Shape.{Reached}
 use Rattle.cache.specs.declared.store.Store.{Store}
-use Rattle.cache.specs.Places.{used, place_at, held, framed}
+use Rattle.cache.specs.Places.{HeldOnce, used, place_at, held, framed}
 
 -- the disk below, the policy's state, the places, the fetches since start, and the cache's own tallies
 pub record View (State : Type 0) : Type 0 where
@@ -30,8 +30,7 @@ machine v = record { policy = v.policy; keys = framed v.store }
 
 -- what holds of a store over a disk of so many sectors, with these dead and these bytes
 pub record Holding (count : ℕ) (dead : ℕ → Bool) (bytes : ℕ → List ℕ) (s : Store) : Type 0 where
-  -- no two places hold one sector, so that no pinned sector is in a frame
-  pub apart : (i j : ℕ) → i < used s → j < used s → (place_at s i).sector ≡ (place_at s j).sector → i ≡ j
+  pub apart : HeldOnce s
   -- what is held is a live sector of the disk, of 512 bytes
   pub inside : (i : ℕ) → i < used s → (place_at s i).sector < count
   pub live : (i : ℕ) → i < used s → dead (place_at s i).sector ≡ false
@@ -51,3 +50,4 @@ pub record Sound {Setting State : Type 0} (r : Rules Setting State) (v : View St
   pub placing : Placing r v.policy v.store.pinned (used v.store)
   pub holding : Holding v.below.count v.below.dead v.below.bytes v.store
   pub sizes : Sized v.below
+  pub tallied : Tallied v.below

@@ -4,13 +4,11 @@
 mod as_disk;
 mod cache;
 mod run;
-mod session;
 mod set_up;
 mod slip;
 mod store;
 
 pub use cache::Cache;
 pub use run::run_turns;
-pub use session::rewrite_sector;
 pub use set_up::SetUpCache;
 pub use slip::EndingSlip;

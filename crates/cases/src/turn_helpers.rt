@@ -13,13 +13,8 @@ pub fn turns_of(heap: Global, cases: &[Case]) -> Result<Vec<Turn>, AllocError> {
     cases
         .iter()
         .map(|(task, request, sector, (len, byte), ..)| -> Result<Turn, AllocError> {
-            Ok(Turn {
-                task: *task,
-                request: *request,
-                sector: *sector,
-                buffer: vec![in heap; *byte; *len]?,
-                answer: None,
-            })
+            let buffer = vec![in heap; *byte; *len]?;
+            Ok(Turn::new(*task, *request, *sector, buffer))
         })
         .try_collect(heap)
 }

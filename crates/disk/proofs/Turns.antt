@@ -1,15 +1,16 @@
 -- Lists of turns, turn by turn.
-use Rattle.std.proofs.Common.{◌≡◌, ℕ, zero, suc, ◌+◌, ◌^◌, ◌<◌, ◌≤◌, min, Bool, true, false, cond, ◌&&◌, eqb, List, [], ◌∷◌, ◌++◌, length, get_or, take, drop, set, vec_items, vec_len, Result, sym, refl, ◌∙◌, inl, inr, append_assoc, add-zero, arith}
+use Rattle.std.proofs.Common.{◌≡◌, ℕ, zero, suc, ◌+◌, ◌^◌, ◌<◌, ◌≤◌, min, Bool, true, false, cond, ◌&&◌, eqb, List, [], ◌∷◌, ◌++◌, length, get_or, take, drop, set, count_by, vec_items, vec_len, Result, sym, refl, ◌∙◌, inl, inr, append_assoc, add-zero, arith}
 use mathlib.Core.Path.{fun_ext}
 use Rattle.std.proofs.lemmas.Bool.{cases_Bool}
 use Rattle.std.proofs.lemmas.List.{with_items_is, append-nil, take_more, take_more_set, drop_more, drop-set-lt, length-set, take_all}
+use Rattle.std.proofs.lemmas.List.Sums.{sum_by_push}
 use Rattle.std.specs.Vec.{with_items}
 use Rattle.base.specs.declared.refusal.Refusal.{Refusal}
 use Rattle.disk.specs.declared.turn.Request.{Request}
 use Rattle.disk.specs.declared.turn.Request.TheVariants.{Read, Write, Flush}
 use Rattle.disk.specs.declared.turn.Turn.{Turn}
 use Rattle.disk.specs.Meaning.{Meaning, raised, answer, serves, after_read, buffer_read, largest_tally}
-use Rattle.disk.specs.Turns.{is_read, is_write, reads_in, writes_in, latest, how_many, answer_turn, Answered, AllAnswered, after_turns}
+use Rattle.disk.specs.Turns.{is_read, is_write, reads_in, writes_in, latest, answer_turn, Answered, AllAnswered, after_turns}
 use Rattle.disk.specs.Turn.{after_request, buffer_request, after_turn, Done}
 
 -- a read served into the buffer of a turn
@@ -48,12 +49,24 @@ along m ts = record {
   count = m.count;
   bytes = λ x. latest m (m.bytes x) x ts;
   dead = m.dead;
-  reads = raises (how_many m (reads_in m) ts) m.reads;
-  writes = raises (how_many m (writes_in m) ts) m.writes;
+  reads = raises (count_by (reads_in m) ts) m.reads;
+  writes = raises (count_by (writes_in m) ts) m.writes;
 }
 
 pub along_is : (m : Meaning) (ts : List Turn) → (along m ts).reads < 2 ^ 64 → (along m ts).writes < 2 ^ 64 → along m ts ≡ after_turns m ts
-along_is m ts r w = rw (raises_is (how_many m (reads_in m) ts) m.reads r, raises_is (how_many m (writes_in m) ts) m.writes w)
+along_is m ts r w = rw (raises_is (count_by (reads_in m) ts) m.reads r, raises_is (count_by (writes_in m) ts) m.writes w)
+
+-- the disk after a turn, by what is asked
+pub request_after : (n : Meaning) (q : Request) (x : ℕ) (b : List ℕ) → after_request q n x b ≡ record {
+  count = n.count;
+  bytes = λ y. cond ((is_write q && serves n x (length b)) && eqb y x) b (n.bytes y);
+  dead = n.dead;
+  reads = cond (is_read q && serves n x (length b)) (raised n.reads) n.reads;
+  writes = cond (is_write q && serves n x (length b)) (raised n.writes) n.writes;
+}
+request_after n Read x b = elim (cases_Bool (serves n x (length b))) [ inl e ↦ rw e | inr e ↦ rw e ]
+request_after n Write x b = elim (cases_Bool (serves n x (length b))) [ inl e ↦ rw e | inr e ↦ rw e ]
+request_after n Flush x b = refl
 
 module _ (m : Meaning) where
   -- one turn more at the end
@@ -62,29 +75,13 @@ module _ (m : Meaning) where
   latest_push b x [] t = refl
   latest_push b x (s ∷ ts) t = latest_push (cond (writes_in m s && eqb x s.sector) (vec_items s.buffer) b) x ts t
 
-  how_many_push : (test : Turn → Bool) (ts : List Turn) (t : Turn) → how_many m test (ts ++ (t ∷ [])) ≡ how_many m test ts + cond (test t) 1 0
-  how_many_push test [] t = omega arith
-  how_many_push test (s ∷ ts) t = let ih = how_many_push test ts t in rw ih (omega arith)
-
-  -- a turn at its end, by what is asked
-  request_after : (n : Meaning) (q : Request) (x : ℕ) (b : List ℕ) → after_request q n x b ≡ record {
-    count = n.count;
-    bytes = λ y. cond ((is_write q && serves n x (length b)) && eqb y x) b (n.bytes y);
-    dead = n.dead;
-    reads = cond (is_read q && serves n x (length b)) (raised n.reads) n.reads;
-    writes = cond (is_write q && serves n x (length b)) (raised n.writes) n.writes;
-  }
-  request_after n Read x b = elim (cases_Bool (serves n x (length b))) [ inl e ↦ rw e | inr e ↦ rw e ]
-  request_after n Write x b = elim (cases_Bool (serves n x (length b))) [ inl e ↦ rw e | inr e ↦ rw e ]
-  request_after n Flush x b = refl
-
   pub along_push : (ts : List Turn) (t : Turn) → along m (ts ++ (t ∷ [])) ≡ after_turn (along m ts) t
   along_push ts t =
       let bytes : (λ y. latest m (m.bytes y) y (ts ++ (t ∷ []))) ≡ (λ y. cond (writes_in m t && eqb y t.sector) (vec_items t.buffer) (latest m (m.bytes y) y ts)) =
       fun_ext (λ y. latest_push (m.bytes y) y ts t) in
-      let reads = raises_more (reads_in m t) (how_many m (reads_in m) ts) m.reads in
-      let writes = raises_more (writes_in m t) (how_many m (writes_in m) ts) m.writes in
-      rw (bytes, how_many_push (reads_in m) ts t, how_many_push (writes_in m) ts t, ← reads, ← writes) (sym (request_after (along m ts) t.request t.sector (vec_items t.buffer)))
+      let reads = raises_more (reads_in m t) (count_by (reads_in m) ts) m.reads in
+      let writes = raises_more (writes_in m t) (count_by (writes_in m) ts) m.writes in
+      rw (bytes, sum_by_push (λ s. cond (reads_in m s) 1 0) ts t, sum_by_push (λ s. cond (writes_in m s) 1 0) ts t, ← reads, ← writes) (sym (request_after (along m ts) t.request t.sector (vec_items t.buffer)))
 
   -- a turn that was done on the disk after some turns is answered
   request_bytes : (past : List Turn) (q : Request) (x : ℕ) (b : List ℕ) →

@@ -1,5 +1,5 @@
 -- Lists of turns, as a disk alone serves them. Assumes nothing.
-use Rattle.std.specs.Prelude.{◌≡◌, ℕ, ◌+◌, min, Bool, true, false, cond, ◌&&◌, ◌==◌, List, [], ◌∷◌, ◌++◌, length}
+use Rattle.std.specs.Prelude.{◌≡◌, ℕ, ◌+◌, min, Bool, true, false, cond, ◌&&◌, ◌==◌, List, [], ◌∷◌, ◌++◌, length, count_by}
 use Rattle.std.specs.Prelude.{Some, Ok, Result, vec_items}
 use Rattle.base.specs.declared.refusal.Refusal.{Refusal}
 use Rattle.disk.specs.declared.turn.Request.{Request}
@@ -40,11 +40,6 @@ module _ (m : Meaning) where
   latest start x [] = start
   latest start x (t ∷ ts) = latest (cond (writes_in t && x == t.sector) (vec_items t.buffer) start) x ts
 
-  -- how many turns are accepted reads, or accepted writes
-  abbrev pub how_many : (Turn → Bool) → List Turn → ℕ
-  how_many test [] = 0
-  how_many test (t ∷ ts) = cond (test t) 1 0 + how_many test ts
-
   -- A turn before and after it was taken, when the turns in `past` had been taken: an accepted read has the bytes of the last
   -- accepted write of its sector, or those at the start; every other buffer is as it was.
   pub record Answered (past : List Turn) (t t' : Turn) : Type 0 where
@@ -65,6 +60,6 @@ module _ (m : Meaning) where
   abbrev pub after_turns : List Turn → Meaning
   after_turns ts = record m {
     bytes = λ x. latest (m.bytes x) x ts;
-    reads = min (m.reads + how_many reads_in ts) largest_tally;
-    writes = min (m.writes + how_many writes_in ts) largest_tally;
+    reads = min (m.reads + count_by reads_in ts) largest_tally;
+    writes = min (m.writes + count_by writes_in ts) largest_tally;
   }

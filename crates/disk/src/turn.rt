@@ -1,6 +1,7 @@
 // What a task asks of a disk: a turn with its own buffer, and the place for its answer.
 use base::Refusal;
 
+mod calls;
 mod shown;
 
 #[derive(Clone, Copy, PartialEq, Eq, Debug)]

@@ -22,8 +22,9 @@ impl<D: Disk, P: Policy> SetUpCache<D, P> {
         ensures below { result.below ≡ below }
         ensures pins { pins result.store ≡ [] }
     {
-        // with its count a disk promises that every sector has 512 bytes
+        // with its count a disk promises that every sector has 512 bytes, with its tallies that they have 64 bits
         let _ = below.count();
+        let _ = below.tallies();
         let policy = P::new(setting, &geometry);
         let store = Store::new();
         SetUpCache {

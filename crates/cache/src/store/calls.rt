@@ -1,6 +1,6 @@
 // What is done to the places of a store.
 ghost use Rattle.std.specs.Prelude.{◌≡◌, ◌<◌, ◌≤◌, [], length};
-ghost use Rattle.cache.specs.Places.{used, place_at, held, found, stored, installed, pinned_in, cleaned};
+ghost use Rattle.cache.specs.Places.{HeldOnce, used, place_at, held, found, stored, installed, pinned_in, cleaned};
 
 use super::{Place, Store};
 use arrayvec::ArrayVec;
@@ -24,8 +24,10 @@ impl Store {
         self.places.len()
     }
 
-    // The place that holds a sector.
+    // The place that holds a sector: the only one, whatever the order of the search.
     pub fn find(&self, sector: u32) -> Option<usize>
+        requires once { HeldOnce self.now }
+        requires within { used self.now ≤ 72 }
         ensures { result ≡ found (held self.now) sector }
     {
         self.places.iter().position(|place| place.sector == sector)

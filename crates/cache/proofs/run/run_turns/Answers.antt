@@ -1,9 +1,10 @@
-use Rattle.std.proofs.Common.{◌<◌, ◌≤◌, length, refl, arith}
+use Rattle.std.proofs.Common.{◌<◌, ◌≤◌, length, refl, ◌∙◌, arith}
+use Rattle.cache.specs.Promise.{alone}
 use Rattle.cache.specs.Reading.{view}
 use Rattle.cache.specs.SetUp.{origin}
 use Rattle.cache.specs.Runs.{done}
 use Rattle.cache.proofs.Promises.{promise_of}
-use Rattle.cache.proofs.Turnwise.{taking_none, taking_more, taking_all, all_alone}
+use Rattle.cache.proofs.Turnwise.{taking_none, taking_more, taking_all, all_alone, alone_turns}
 use Rattle.cache.proofs.run.run_turns.Goals as goal
 
 pub loop-turn-init : goal.loop-turn-init
@@ -25,10 +26,12 @@ returns-clause-runs g c setting first =
     let o = origin d p c.args.set_up setting in
     let all = taking_all d p _ _ _ _ _ q h in
     let t = q.takes o (c.start-cache.ensures.begins.taken setting first) in
+    let promise = promise_of p.rules g.met.P.Policy.conservative o q.events (view d p c.loop-turn.cache) t in
     record {
       events = q.events;
       reported = all;
-      alone = all_alone o.disk done all t.answers;
+      alone = all_alone (alone o) done all promise.answers;
+      shows = promise.shows ∙ alone_turns (alone o) all;
       taken = t;
-      promise = promise_of p.rules g.met.P.Policy.conservative o q.events (view d p c.loop-turn.cache) t;
+      promise = promise;
     }

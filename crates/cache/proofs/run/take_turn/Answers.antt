@@ -1,6 +1,7 @@
 use Rattle.std.proofs.Common.{◌≡◌, length, Ok, vec_items, vec_len, sym, refl, rules}
 use Rattle.std.proofs.lemmas.List.{with_items_is}
 use Rattle.disk.specs.declared.turn.Request.TheVariants.{Read, Write, Flush}
+use Rattle.cache.specs.Reading.{view}
 use Rattle.cache.proofs.run.take_turn.Goals as goal
 
 pub returns-in-Read-clause-takes : goal.returns-in-Read-clause-takes
@@ -10,7 +11,7 @@ returns-in-Read-clause-takes g c =
     let ws = c.read_sector.new.buffer in
     let long : length ws ≡ vec_len t.buffer = search rules in
     record {
-      event = record { request = Read; sector = t.sector; before = c.deref_mut.result.now; after = ws; answer = c.read_sector.result; below = g.D.Disk.meaning q.below; fetched = q.fetched };
+      event = record { request = Read; sector = t.sector; before = c.deref_mut.result.now; after = ws; answer = c.read_sector.result; cache = view g.D.Disk g.P.Policy q };
       report = record {
         task = refl;
         request = refl;
@@ -21,6 +22,7 @@ returns-in-Read-clause-takes g c =
         after = with_items_is t.buffer ws long;
         answer = refl;
       };
+      leaves = refl;
       takes = c.read_sector.ensures.takes;
     }
 
@@ -30,7 +32,7 @@ returns-in-Write-clause-takes g c =
     let q = c.write_sector.new.self in
     let bs = c.deref.result.now in
     record {
-      event = record { request = Write; sector = t.sector; before = bs; after = bs; answer = c.write_sector.result; below = g.D.Disk.meaning q.below; fetched = q.fetched };
+      event = record { request = Write; sector = t.sector; before = bs; after = bs; answer = c.write_sector.result; cache = view g.D.Disk g.P.Policy q };
       report = record {
         task = refl;
         request = refl;
@@ -41,6 +43,7 @@ returns-in-Write-clause-takes g c =
         after = sym c.deref.ensures.value;
         answer = refl;
       };
+      leaves = refl;
       takes = c.write_sector.ensures.takes;
     }
 
@@ -50,7 +53,8 @@ returns-in-Flush-clause-takes g c =
     let q = c.flush.new.self in
     let bs = vec_items t.buffer in
     record {
-      event = record { request = Flush; sector = t.sector; before = bs; after = bs; answer = Ok tt; below = g.D.Disk.meaning q.below; fetched = q.fetched };
+      event = record { request = Flush; sector = t.sector; before = bs; after = bs; answer = Ok tt; cache = view g.D.Disk g.P.Policy q };
       report = record { task = refl; request = refl; sector = refl; asked = sym c.in-Flush.is; of = refl; before = refl; after = refl; answer = refl };
+      leaves = refl;
       takes = c.flush.ensures.takes t.sector bs;
     }

@@ -1,8 +1,9 @@
-use Rattle.std.proofs.Common.{Err, sym, refl, ap, ◌∙◌, arith}
+use Rattle.disk.specs.declared.turn.Request.TheVariants.{Read}
+use Rattle.std.proofs.Common.{Err, is_ok, sym, refl, ap, ◌∙◌, arith}
 use Rattle.std.proofs.lemmas.Result.{err_from_is_err_and}
 use Rattle.cache.specs.Reading.{view}
 use Rattle.cache.proofs.Takings.{read_taken}
-use Rattle.cache.proofs.Requests.{Asked, touched_is, turned, short_answer, short_turned, refused_answer, refused_read, refused_fills, accepted_answer, accepted_at, counted, read_sound, read_after, read_fills}
+use Rattle.cache.proofs.Requests.{Asked, touched_is, short_answer, short_turned, refused_answer, refused_read, refused_fills, refused_turned, accepted_answer, accepted_at, read_sound, read_after, read_fills, read_turned}
 use Rattle.cache.proofs.cache.Cache.read_sector.Given as given
 use Rattle.cache.proofs.cache.Cache.read_sector.Goals as goal
 use Rattle.cache.proofs.cache.Cache.read_sector.Goals.{After-touch}
@@ -19,7 +20,7 @@ returns-then-buffer-ne-SECTOR_BYTES-clause-takes g c =
     let x = c.args.sector in
     let b = c.args.buffer.now in
     let answers = short_answer r v x b c.if-buffer-ne-SECTOR_BYTES.true in
-    read_taken r v v x b _ answers (short_turned r v x b c.if-buffer-ne-SECTOR_BYTES.true) b (refused_fills v v x b refl _ answers) (refused_read v v x b refl _ answers)
+    read_taken r v v x b _ b answers (short_turned r v x b c.if-buffer-ne-SECTOR_BYTES.true Read) (refused_fills v v x b refl _ answers) (refused_read v v x b refl _ answers)
 
 pub returns-in_err-place : goal.returns-in_err-place
 returns-in_err-place g c =
@@ -32,14 +33,14 @@ returns-in_err-place g c =
     let answers = p.1 ∙ ap Err p.2 ∙ refused in
     let after = refused_read v w _ _ shows _ refused in
     let fills = refused_fills v w _ _ shows _ refused in
-    let done = turned q _ refl refl refl refl in
+    let done = refused_turned q Read (ap is_ok (sym refused)) in
     record {
       kept = record { under = c.touch.ensures.under; own = (touched_is q).sound };
       answers = answers;
       after = after;
       fills = fills;
       turned = done;
-      takes = read_taken g.P.Policy.rules _ _ _ _ _ answers done _ fills after;
+      takes = read_taken g.P.Policy.rules _ _ _ _ _ _ answers done fills after;
     }
 
 pub copy_out-requires : goal.copy_out-requires
@@ -51,17 +52,16 @@ pub returns : goal.returns
 returns g c =
     let q = asked g (goal.at.returns g c).After-touch in
     let accepted = sym c.in_ok-place.was ∙ c.touch.ensures.answers in
-    let w = view g.D.Disk g.P.Policy c.touch.new.self in
     let t = c.count_read.new.self in
     let answers = accepted_answer q _ accepted in
     let after = read_after q _ accepted t c.count_read.ensures.reads c.count_read.ensures.writes in
     let fills = c.copy_out.ensures ∙ read_fills q _ accepted in
-    let done = turned q (counted w w.store t) refl refl refl refl in
+    let done = read_turned q _ accepted t in
     record {
       kept = record { under = c.touch.ensures.under; own = read_sound q _ accepted t };
       answers = answers;
       after = after;
       fills = fills;
       turned = done;
-      takes = read_taken g.P.Policy.rules _ _ _ _ _ answers done _ fills after;
+      takes = read_taken g.P.Policy.rules _ _ _ _ _ _ answers done fills after;
     }

@@ -1,8 +1,9 @@
-use Rattle.std.proofs.Common.{Err, sym, refl, ap, ◌∙◌, arith}
+use Rattle.disk.specs.declared.turn.Request.TheVariants.{Write}
+use Rattle.std.proofs.Common.{Err, is_ok, sym, refl, ap, ◌∙◌, arith}
 use Rattle.std.proofs.lemmas.Result.{err_from_is_err_and}
 use Rattle.cache.specs.Reading.{view}
 use Rattle.cache.proofs.Takings.{write_taken}
-use Rattle.cache.proofs.Requests.{Asked, touched_is, turned, short_answer, short_turned, refused_answer, refused_write, accepted_answer, accepted_at, write_sound, write_after, write_turned}
+use Rattle.cache.proofs.Requests.{Asked, touched_is, short_answer, short_turned, refused_answer, refused_write, refused_turned, accepted_answer, accepted_at, write_sound, write_after, write_turned}
 use Rattle.cache.proofs.cache.Cache.write_sector.Given as given
 use Rattle.cache.proofs.cache.Cache.write_sector.Goals as goal
 use Rattle.cache.proofs.cache.Cache.write_sector.Goals.{After-touch}
@@ -19,7 +20,7 @@ returns-then-buffer-ne-SECTOR_BYTES-clause-takes g c =
     let x = c.args.sector in
     let b = c.args.buffer.now in
     let answers = short_answer r v x b c.if-buffer-ne-SECTOR_BYTES.true in
-    write_taken r v v x b _ answers (short_turned r v x b c.if-buffer-ne-SECTOR_BYTES.true) (refused_write v v x b refl _ answers)
+    write_taken r v v x b _ answers (short_turned r v x b c.if-buffer-ne-SECTOR_BYTES.true Write) (refused_write v v x b refl _ answers)
 
 pub returns-in_err-place : goal.returns-in_err-place
 returns-in_err-place g c =
@@ -30,7 +31,7 @@ returns-in_err-place g c =
     let refused = refused_answer q _ (sym c.in_err-place.was ∙ c.touch.ensures.answers) in
     let answers = p.1 ∙ ap Err p.2 ∙ refused in
     let after = refused_write v w _ _ (touched_is q).shows _ refused in
-    let done = turned q _ refl refl refl refl in
+    let done = refused_turned q Write (ap is_ok (sym refused)) in
     record {
       kept = record { under = c.touch.ensures.under; own = (touched_is q).sound };
       answers = answers;
