@@ -214,7 +214,7 @@ module _ {Setting State : Type 0} (r : Rules Setting State) where
     facts_of es v t = rw t.last (facts_all [] es (facts_none t.begun) t.steps)
 
     -- one turn more
-    taken_push : (es : List (Event State)) (v : View State) (e : Event State) → Taken r o es v → Took r v e → Taken r o (es ++ (e ∷ [])) e.cache
+    pub taken_push : (es : List (Event State)) (v : View State) (e : Event State) → Taken r o es v → Took r v e → Taken r o (es ++ (e ∷ [])) e.cache
     taken_push es v e t k = record {
       begun = t.begun;
       steps = each_push (λ past d. Took r (cache_after o.cache past) d) [] es e t.steps (rw t.last at k);
@@ -225,19 +225,30 @@ module _ {Setting State : Type 0} (r : Rules Setting State) where
   abbrev event : Request → ℕ → List ℕ → List ℕ → Result (Unit {0}) Refusal → View State → Event State
   event q x b b' a v' = record { request = q; sector = x; before = b; after = b'; answer = a; cache = v' }
 
-  -- a read, a write and a flush, behind the turns taken before
+  -- a read, a write and a flush, as turns that a cache took
   module _ (v v' : View State) (x : ℕ) (b : List ℕ) where
+    pub read_took : (a : Result (Unit {0}) Refusal) (b' : List ℕ) → a ≡ answer (seen v) x (length b) → Turned r Read v x (length b) v' →
+        b' ≡ buffer_read (seen v) x b → seen v' ≡ after_read (seen v) x b → Took r v (event Read x b b' a v')
+    read_took a b' answers turned fills after =
+        record { answers = answers; fills = fills; shows = after; turned = λ _. turned; flushed = λ q. absurd (true≢false (ap accesses q)) }
+
+    pub write_took : (a : Result (Unit {0}) Refusal) → a ≡ answer (seen v) x (length b) → Turned r Write v x (length b) v' → seen v' ≡ after_write (seen v) x b →
+        Took r v (event Write x b b a v')
+    write_took a answers turned after =
+        record { answers = answers; fills = refl; shows = after; turned = λ _. turned; flushed = λ q. absurd (true≢false (ap accesses q)) }
+
+    pub flush_took : Flushed v v' → Took r v (event Flush x b b (Ok tt) v')
+    flush_took f = record { answers = refl; fills = refl; shows = f.shows; turned = λ q. absurd (true≢false (sym q)); flushed = λ _. f }
+
+    -- and behind those taken before
     pub read_taken : (a : Result (Unit {0}) Refusal) (b' : List ℕ) → a ≡ answer (seen v) x (length b) → Turned r Read v x (length b) v' →
         b' ≡ buffer_read (seen v) x b → seen v' ≡ after_read (seen v) x b →
         (o : Origin Setting State) (es : List (Event State)) → Taken r o es v → Taken r o (es ++ (event Read x b b' a v' ∷ [])) v'
-    read_taken a b' answers turned fills after o es t = taken_push o es v (event Read x b b' a v') t
-        (record { answers = answers; fills = fills; shows = after; turned = λ _. turned; flushed = λ q. absurd (true≢false (ap accesses q)) })
+    read_taken a b' answers turned fills after o es t = taken_push o es v (event Read x b b' a v') t (read_took a b' answers turned fills after)
 
     pub write_taken : (a : Result (Unit {0}) Refusal) → a ≡ answer (seen v) x (length b) → Turned r Write v x (length b) v' → seen v' ≡ after_write (seen v) x b →
         (o : Origin Setting State) (es : List (Event State)) → Taken r o es v → Taken r o (es ++ (event Write x b b a v' ∷ [])) v'
-    write_taken a answers turned after o es t = taken_push o es v (event Write x b b a v') t
-        (record { answers = answers; fills = refl; shows = after; turned = λ _. turned; flushed = λ q. absurd (true≢false (ap accesses q)) })
+    write_taken a answers turned after o es t = taken_push o es v (event Write x b b a v') t (write_took a answers turned after)
 
     pub flush_taken : Flushed v v' → (o : Origin Setting State) (es : List (Event State)) → Taken r o es v → Taken r o (es ++ (event Flush x b b (Ok tt) v' ∷ [])) v'
-    flush_taken f o es t = taken_push o es v (event Flush x b b (Ok tt) v') t
-        (record { answers = refl; fills = refl; shows = f.shows; turned = λ q. absurd (true≢false (sym q)); flushed = λ _. f })
+    flush_taken f o es t = taken_push o es v (event Flush x b b (Ok tt) v') t (flush_took f)

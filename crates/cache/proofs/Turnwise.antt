@@ -1,5 +1,5 @@
 -- A list of turns, one after another.
-use Rattle.std.proofs.Common.{◌≡◌, ℕ, ◌+◌, ◌<◌, ◌≤◌, Bool, cond, List, [], ◌∷◌, ◌++◌, length, count_by, get_or, take, drop, set, Some, sym, refl, ap, ◌∙◌, zero-add, arith}
+use Rattle.std.proofs.Common.{◌≡◌, ℕ, ◌+◌, ◌<◌, ◌≤◌, Bool, cond, List, [], ◌∷◌, ◌++◌, length, count_by, get_or, take, drop, set, Some, sym, refl, ap, ◌∙◌, subst, zero-add, arith}
 use mathlib.Core.Path.{fun_ext}
 use Rattle.std.proofs.lemmas.List.Sums.{sum_by-cons}
 use Rattle.std.proofs.lemmas.List.{take_more, take_more_set, drop_more, drop-set-lt, length-set, take_all}
@@ -12,7 +12,15 @@ use Rattle.disk.specs.Turns.{latest, reads_in, writes_in, Answered, AllAnswered,
 use Rattle.cache.specs.Events.{Event, Each, AsAlone, latest_write, bytes_after, alone_after, read_accepted, write_accepted}
 use Rattle.cache.specs.Promise.{Origin, Taken}
 use Rattle.cache.specs.Reading.{view}
-use Rattle.cache.specs.Runs.{Report, Reported, done, more, unserved, TakesTurn}
+use Rattle.cache.specs.declared.set_up.SetUpCache.{SetUpCache}
+use Rattle.policy.specs.Law.{Conservative}
+use Rattle.cache.specs.SetUp.{Begins, origin}
+use Rattle.cache.specs.Promise.{alone}
+use Rattle.cache.specs.Runs.{Report, Reported, done, more, unserved, TakesTurn, TakesTurns, none, Runs}
+use Rattle.cache.proofs.Takings.{taken_push}
+use Rattle.cache.proofs.Promises.{promise_of}
+use Rattle.std.proofs.Common.{append_assoc}
+use Rattle.std.proofs.lemmas.List.{append-nil}
 
 reported_push : {State : Type 0} {ts ts' : List Turn} {es : List (Event State)} {t t' : Turn} {e : Event State} → Reported ts ts' es → Report t t' e → Reported (ts ++ (t ∷ [])) (ts' ++ (t' ∷ [])) (es ++ (e ∷ []))
 reported_push done q = more q done
@@ -55,16 +63,50 @@ module _ {State : Type 0} (m : Meaning) where
       rw (bytes, reads, writes, zero-add, zero-add)
 
 module _ {D P Setting : Type 0} (d : disks.Ghosts D) (p : policies.Ghosts P Setting) where
+  taken_all : {c c' : Cache D P} {ts ts' : List Turn} → TakesTurns d p c ts ts' c' → (es : List (Event p.State)) × Reported ts ts' es ×
+      ((o : Origin Setting p.State) (past : List (Event p.State)) → Taken p.rules o past (view d p c) → Taken p.rules o (past ++ es) (view d p c'))
+  taken_all none = ([], done, λ o past t. rw (append-nil past) t)
+  taken_all (more k rest) =
+      let q = taken_all rest in (
+        k.event ∷ q.0,
+        more k.report q.1,
+        λ o past t.
+            rw (append_assoc past (k.event ∷ []) q.0) at (q.2 o (past ++ (k.event ∷ []))
+            (subst (Taken p.rules o (past ++ (k.event ∷ []))) k.leaves (taken_push p.rules o past _ k.event t k.took))),
+      )
+
+  -- a run, from its start and the turns taken
+  pub ran : Conservative p.rules → (s : SetUpCache D P) (c c' : Cache D P) (ts ts' : List Turn) → Begins d p s c → TakesTurns d p c ts ts' c' → Runs d p s ts ts' c'
+  ran law s c c' ts ts' b k setting first =
+      let o = origin d p s setting in
+      let q = taken_all k in
+      let t = q.2 o [] (b.taken setting first) in
+      let promise = promise_of p.rules law o q.0 (view d p c') t in
+      record {
+        started = c;
+        begins = b;
+        turns = k;
+        events = q.0;
+        reported = q.1;
+        alone = all_alone (alone o) done q.1 promise.answers;
+        shows = promise.shows ∙ alone_turns (alone o) q.1;
+        taken = t;
+        promise = promise;
+      }
+
+  turns_push : {c c' c'' : Cache D P} {ts ts' : List Turn} {t t' : Turn} → TakesTurns d p c ts ts' c' → TakesTurn d p c' t t' c'' →
+      TakesTurns d p c (ts ++ (t ∷ [])) (ts' ++ (t' ∷ [])) c''
+  turns_push none q = more q none
+  turns_push (more k rest) q = more k (turns_push rest q)
+
   -- what holds once a cache, at first c₀, has taken i turns of the list us, which is now ts
   pub record Taking (c₀ : Cache D P) (us ts : List Turn) (i : ℕ) (c : Cache D P) : Type 0 where
     pub rest : drop i ts ≡ drop i us
     pub long : length ts ≡ length us
-    pub events : List (Event p.State)
-    pub reported : Reported (take i us) (take i ts) events
-    pub takes : (o : Origin Setting p.State) → Taken p.rules o [] (view d p c₀) → Taken p.rules o events (view d p c)
+    pub turns : TakesTurns d p c₀ (take i us) (take i ts) c
 
   pub taking_none : (c₀ : Cache D P) (us : List Turn) → Taking c₀ us us 0 c₀
-  taking_none c₀ us = record { rest = refl; long = refl; events = []; reported = done; takes = λ o t. t }
+  taking_none c₀ us = record { rest = refl; long = refl; turns = none }
 
   module _ (c₀ : Cache D P) (us ts : List Turn) (i : ℕ) (c : Cache D P) (q : Taking c₀ us ts i c) where
     pub taking_more : (e t t' : Turn) (c' : Cache D P) → i < length ts → t ≡ get_or ts i e → TakesTurn d p c t t' c' → Taking c₀ us (set ts i t') (i + 1) c'
@@ -79,13 +121,11 @@ module _ {D P Setting : Type 0} (d : disks.Ghosts D) (p : policies.Ghosts P Sett
         record {
           rest = drop-set-lt (i + 1) ts i t' (omega arith) ∙ tail;
           long = length-set ts i t' ∙ q.long;
-          events = q.events ++ (k.event ∷ []);
-          reported = rw (front, take_more_set ts i t' h) (reported_push q.reported k.report);
-          takes = λ o w. k.takes o q.events (q.takes o w);
+          turns = rw (front, take_more_set ts i t' h) (turns_push q.turns k);
         }
 
-    pub taking_all : length us ≤ i → Reported us ts q.events
+    pub taking_all : length us ≤ i → TakesTurns d p c₀ us ts c
     taking_all h =
         let a = take_all i us h in
         let b = take_all i ts (rw q.long h) in
-        rw (a, b) at q.reported
+        rw (a, b) at q.turns

@@ -26,7 +26,8 @@ abbrev pub accesses : Request → Bool
 accesses q = is_read q || is_write q
 
 -- what holds of every turn of a list, each with the turns before it
-abbrev pub Each : {State : Type 0} → (List (Event State) → Event State → Type 0) → List (Event State) → List (Event State) → Type 0
+abbrev pub Each : {State : Type 0} → (List (Event State) → Event State → Type 0) →
+    List (Event State) → List (Event State) → Type 0
 Each P past [] = Unit {0}
 Each P past (e ∷ es) = P past e × Each P (past ++ (e ∷ [])) es
 

@@ -28,7 +28,14 @@ module _ {D P Setting : Type 0} (d : disks.Ghosts D) (p : policies.Ghosts P Sett
   -- c' has taken one turn more than c: whatever turns c has taken, c' has taken those and this one
   abbrev pub Takes : Cache D P → Request → ℕ → List ℕ → List ℕ → Result (Unit {0}) Refusal → Cache D P → Type 0
   Takes c request x b b' answer c' = (o : Origin Setting p.State) (es : List (Event p.State)) → Taken p.rules o es (view c) →
-      Taken p.rules o (es ++ (record { request = request; sector = x; before = b; after = b'; answer = answer; cache = view c' } ∷ [])) (view c')
+      Taken p.rules o (es ++ (record {
+        request = request;
+        sector = x;
+        before = b;
+        after = b';
+        answer = answer;
+        cache = view c';
+      } ∷ [])) (view c')
 
   -- the promise, for every list of turns that the cache can have taken
   abbrev pub Promised : Cache D P → Type 0

@@ -1,5 +1,5 @@
 -- A run of turns, from the start of a cache on. Assumes nothing.
-use Rattle.std.specs.Prelude.{◌≡◌, List, [], ◌∷◌, ◌++◌, Some, vec_items}
+use Rattle.std.specs.Prelude.{◌≡◌, List, [], ◌∷◌, Some, vec_items}
 use Rattle.disk.specs.declared.turn.Turn.{Turn}
 use Rattle.disk.specs.Meaning.{Meaning}
 use Rattle.disk.specs.Turns.{AllAnswered, after_turns}
@@ -7,11 +7,11 @@ use Rattle.disk.specs.declared.disk.Disk as disks
 use Rattle.policy.specs.declared.policy.Policy as policies
 use Rattle.cache.specs.declared.set_up.SetUpCache.{SetUpCache}
 use Rattle.cache.specs.declared.cache.Cache.{Cache}
-use Rattle.cache.specs.Events.{Event}
-use Rattle.cache.specs.Promise.{Origin, Taken, Promise}
+use Rattle.cache.specs.Events.{Event, Took}
+use Rattle.cache.specs.Promise.{Taken, Promise}
 use Rattle.cache.specs.View.{seen}
 use Rattle.cache.specs.Reading.{view}
-use Rattle.cache.specs.SetUp.{FirstState, origin}
+use Rattle.cache.specs.SetUp.{FirstState, Begins, origin}
 
 -- a turn as it was given, as it is once taken, and the event that it was
 pub record Report {State : Type 0} (t t' : Turn) (e : Event State) : Type 0 where
@@ -35,16 +35,24 @@ abbrev pub unserved : Meaning → Meaning
 unserved m = record m { reads = 0; writes = 0 }
 
 module _ {D P Setting : Type 0} (d : disks.Ghosts D) (p : policies.Ghosts P Setting) where
-  -- one turn taken by a cache c, which then is c': the turn is an event that left c', and c' has taken it behind whatever c had taken
+  -- one turn taken by a cache c, which then is c', as its call promises it
   pub record TakesTurn (c : Cache D P) (t t' : Turn) (c' : Cache D P) : Type 0 where
     pub event : Event p.State
     pub report : Report t t' event
     pub leaves : event.cache ≡ view d p c'
-    pub takes : (o : Origin Setting p.State) (es : List (Event p.State)) → Taken p.rules o es (view d p c) →
-        Taken p.rules o (es ++ (event ∷ [])) (view d p c')
+    pub took : Took p.rules (view d p c) event
 
-  -- A run: a cache that was set up as s, and has taken the turns ts, which then are ts', is c. It keeps the whole promise.
+  -- turns taken one after another, each by the cache that the one before left
+  pub data TakesTurns : Cache D P → List Turn → List Turn → Cache D P → Type 0 where
+    none : {c : Cache D P} → TakesTurns c [] [] c
+    more : {c c' c'' : Cache D P} {t t' : Turn} {ts ts' : List Turn} → TakesTurn c t t' c' → TakesTurns c' ts ts' c'' →
+        TakesTurns c (t ∷ ts) (t' ∷ ts') c''
+
+  -- A run: a cache that was set up as s, started, and has taken the turns ts, which then are ts', is c. It keeps the whole promise.
   pub record Ran (s : SetUpCache D P) (setting : Setting) (ts ts' : List Turn) (c : Cache D P) : Type 0 where
+    pub started : Cache D P
+    pub begins : Begins d p s started
+    pub turns : TakesTurns started ts ts' c
     pub events : List (Event p.State)
     pub reported : Reported ts ts' events
     -- the answers and buffers are those that the disk alone gives to the list, and the cache is the disk that it would be

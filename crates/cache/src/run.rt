@@ -2,7 +2,7 @@
 ghost use Rattle.std.specs.Prelude.{◌≡◌};
 ghost use Rattle.cache.specs.Reading.{Safe};
 ghost use Rattle.cache.specs.SetUp.{Ready};
-ghost use Rattle.cache.specs.Runs.{TakesTurn, Runs};
+ghost use Rattle.cache.specs.Runs.{TakesTurn, TakesTurns, Runs};
 
 use crate::cache::Cache;
 use crate::set_up::SetUpCache;
@@ -25,6 +25,17 @@ fn take_turn<D: Disk, P: Policy>(cache: &mut Cache<D, P>, turn: &mut Turn)
     }
 }
 
+// Takes turns one after another.
+fn take_turns<D: Disk, P: Policy>(cache: &mut Cache<D, P>, turns: &mut [Turn])
+    requires { Safe D.Disk P.Policy cache.old }
+    ensures kept { Safe D.Disk P.Policy cache.new }
+    ensures takes { TakesTurns D.Disk P.Policy cache.old turns.old turns.new cache.new }
+{
+    for turn in turns.iter_mut() {
+        take_turn(cache, turn);
+    }
+}
+
 // The started cache after the turns, with its slip; the answers and buffers stand in the turns.
 pub fn run_turns<D: Disk, P: Policy>(
     set_up: SetUpCache<D, P>,
@@ -35,8 +46,6 @@ pub fn run_turns<D: Disk, P: Policy>(
     ensures runs { Runs D.Disk P.Policy set_up turns.old turns.new result.0 }
 {
     let (mut cache, slip) = set_up.start();
-    for turn in turns.iter_mut() {
-        take_turn(&mut cache, turn);
-    }
+    take_turns(&mut cache, turns);
     (cache, slip)
 }

@@ -35,7 +35,8 @@ impl<D: Disk, P: Policy> Cache<D, P> {
         ensures answers { result ≡ answer (seen (view D.Disk P.Policy self.old)) sector (length buffer.old) }
         ensures after { seen (view D.Disk P.Policy self.new) ≡ after_read (seen (view D.Disk P.Policy self.old)) sector buffer.old }
         ensures fills { buffer.new ≡ buffer_read (seen (view D.Disk P.Policy self.old)) sector buffer.old }
-        ensures turned { Turned P.Policy.rules Read (view D.Disk P.Policy self.old) sector (length buffer.old) (view D.Disk P.Policy self.new) }
+        ensures turned { Turned P.Policy.rules Read (view D.Disk P.Policy self.old) sector (length buffer.old)
+            (view D.Disk P.Policy self.new) }
         ensures takes { Takes D.Disk P.Policy self.old Read sector buffer.old buffer.new result self.new }
     {
         if buffer.len() != SECTOR_BYTES {
@@ -52,7 +53,8 @@ impl<D: Disk, P: Policy> Cache<D, P> {
         ensures kept { Safe D.Disk P.Policy self.new }
         ensures answers { result ≡ answer (seen (view D.Disk P.Policy self.old)) sector (length buffer.now) }
         ensures after { seen (view D.Disk P.Policy self.new) ≡ after_write (seen (view D.Disk P.Policy self.old)) sector buffer.now }
-        ensures turned { Turned P.Policy.rules Write (view D.Disk P.Policy self.old) sector (length buffer.now) (view D.Disk P.Policy self.new) }
+        ensures turned { Turned P.Policy.rules Write (view D.Disk P.Policy self.old) sector (length buffer.now)
+            (view D.Disk P.Policy self.new) }
         ensures takes { Takes D.Disk P.Policy self.old Write sector buffer.now buffer.now result self.new }
     {
         if buffer.len() != SECTOR_BYTES {

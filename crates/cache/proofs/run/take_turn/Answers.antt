@@ -2,6 +2,7 @@ use Rattle.std.proofs.Common.{◌≡◌, length, Ok, vec_items, vec_len, sym, re
 use Rattle.std.proofs.lemmas.List.{with_items_is}
 use Rattle.disk.specs.declared.turn.Request.TheVariants.{Read, Write, Flush}
 use Rattle.cache.specs.Reading.{view}
+use Rattle.cache.proofs.Takings.{read_took, write_took, flush_took}
 use Rattle.cache.proofs.run.take_turn.Goals as goal
 
 pub returns-in-Read-clause-takes : goal.returns-in-Read-clause-takes
@@ -23,7 +24,7 @@ returns-in-Read-clause-takes g c =
         answer = refl;
       };
       leaves = refl;
-      takes = c.read_sector.ensures.takes;
+      took = read_took g.P.Policy.rules _ _ _ _ _ _ c.read_sector.ensures.answers c.read_sector.ensures.turned c.read_sector.ensures.fills c.read_sector.ensures.after;
     }
 
 pub returns-in-Write-clause-takes : goal.returns-in-Write-clause-takes
@@ -44,7 +45,7 @@ returns-in-Write-clause-takes g c =
         answer = refl;
       };
       leaves = refl;
-      takes = c.write_sector.ensures.takes;
+      took = write_took g.P.Policy.rules _ _ _ _ _ c.write_sector.ensures.answers c.write_sector.ensures.turned c.write_sector.ensures.after;
     }
 
 pub returns-in-Flush-clause-takes : goal.returns-in-Flush-clause-takes
@@ -56,5 +57,5 @@ returns-in-Flush-clause-takes g c =
       event = record { request = Flush; sector = t.sector; before = bs; after = bs; answer = Ok tt; cache = view g.D.Disk g.P.Policy q };
       report = record { task = refl; request = refl; sector = refl; asked = sym c.in-Flush.is; of = refl; before = refl; after = refl; answer = refl };
       leaves = refl;
-      takes = c.flush.ensures.takes t.sector bs;
+      took = flush_took g.P.Policy.rules _ _ t.sector bs c.flush.ensures.flushed;
     }

@@ -1,6 +1,6 @@
 use Rattle.cache.specs.Reading.{Safe}
 use Rattle.cache.proofs.Turnwise.{Taking}
-use Rattle.cache.proofs.run.run_turns.Given as goal
+use Rattle.cache.proofs.run.take_turns.Given as goal
 
 abbrev pub invariant-loop-turn : goal.invariant-loop-turn
 invariant-loop-turn g l =
