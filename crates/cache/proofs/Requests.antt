@@ -3,17 +3,15 @@ use Rattle.std.proofs.Common.{◌≡◌, ℕ, Bool, true, false, not, ◌&&◌, 
 use Rattle.std.proofs.lemmas.Bool.{ne_eqb, and_right, true≢false}
 use Rattle.base.specs.declared.refusal.Refusal.TheVariants.{BufferLength}
 use Rattle.base.specs.declared.refusal.Refusal.{Refusal}
-use Rattle.disk.specs.declared.tallies.Tallies.{Tallies}
 use Rattle.disk.specs.declared.turn.Request.{Request}
 use Rattle.disk.specs.declared.turn.Request.TheVariants.{Read, Write}
 use Rattle.disk.specs.Turns.{is_write}
-use Rattle.disk.specs.Meaning.{answer, serves, raised, read_one, written_one, after_read, buffer_read, after_write}
+use Rattle.disk.specs.Meaning.{answer, serves, read_one, written_one, after_read, buffer_read, after_write}
 use Rattle.policy.specs.Machine.{Rules}
 use Rattle.policy.specs.Shape.{Shape}
-use Rattle.cache.specs.declared.store.Store.{Store}
-use Rattle.cache.specs.Places.{place_at, pins, stored, is_dirty}
+use Rattle.cache.specs.Places.{place_at, pins, is_dirty}
 use Rattle.cache.specs.View.{View, Sound, seen, machine}
-use Rattle.cache.specs.Steps.{touched_view, place_of, with_place}
+use Rattle.cache.specs.Steps.{read_view, write_view, touched_view, place_of, with_place}
 use Rattle.cache.specs.Requests.{Turned, misses, puts_out, dirty_after}
 use Rattle.cache.proofs.Dirty.{and_true, stored_dirty}
 use Rattle.cache.proofs.Stores.{HeldAt, shown_held, stored_used, stored_held, stored_holds, stored_shows}
@@ -27,10 +25,6 @@ with_ok (Err e) f g h = absurd (let z : ◌≡◌ {A = ℕ} 0 1 = cc in omega ar
 pub with_err : (a : Result (Unit {0}) Refusal) (e : Refusal) (g : ℕ) → Err e ≡ with_place a g → a ≡ Err e
 with_err (Ok u) e g h = let z : ◌≡◌ {A = ℕ} 0 1 = cc in absurd (omega arith)
 with_err (Err d) e g h = let q : d ≡ e = cc in ap Err q
-
--- a view with another store and other tallies
-abbrev pub counted : {State : Type 0} → View State → Store → Tallies → View State
-counted w s t = record { below = w.below; policy = w.policy; store = s; fetched = w.fetched; reads = t.reads; writes = t.writes }
 
 -- a request to a cache v that was refused, and left w, which shows the same
 module _ {State : Type 0} (v w : View State) (x : ℕ) (b : List ℕ) (shows : seen w ≡ seen v) (e : Refusal) (refused : Err e ≡ answer (seen v) x (length b)) where
@@ -117,34 +111,41 @@ module _ {Setting State : Type 0} {r : Rules Setting State} {v w : View State} {
     pub accepted_at : HeldAt w.store x f
     accepted_at = rw (with_ok (answer v.below x 512) f (place_of r v x) accepted).1 (touched_is.at (rw q.long at accepted_serves))
 
-    pub read_turned : (t : Tallies) → Turned r Read v x (length b) (counted w w.store t)
-    read_turned t = turned Read (counted w w.store t) (λ n. absurd (true≢false (sym accepted_serves ∙ n))) refl refl refl refl dirty_is
-
-    pub read_sound : (t : Tallies) → Sound r (counted w w.store t)
-    read_sound t = let k = touched_is.sound in record { placing = k.placing; holding = k.holding; sizes = k.sizes; tallied = k.tallied }
-
-    pub read_after : (t : Tallies) → t.reads ≡ raised w.reads → t.writes ≡ w.writes → seen (counted w w.store t) ≡ after_read (seen v) x b
-    read_after t e k = rw (accepted_serves, e, k) (ap read_one touched_is.shows)
-
     pub read_fills : (place_at w.store f).block ≡ buffer_read (seen v) x b
     read_fills =
         let k = touched_is.sound in
         rw accepted_serves (sym (shown_held w.store k.holding w.below.bytes x f accepted_at) ∙ ap (λ m. m.bytes x) touched_is.shows)
 
-    module _ (s : Store) (put : s ≡ stored w.store f b) (t : Tallies) where
-      pub write_sound : Sound r (counted w s t)
+    -- the read served from it
+    module _ (w' : View State) (served : w' ≡ read_view w) where
+      pub read_turned : Turned r Read v x (length b) w'
+      read_turned = rw served (turned Read (read_view w) (λ n. absurd (true≢false (sym accepted_serves ∙ n))) refl refl refl refl dirty_is)
+
+      pub read_sound : Sound r w'
+      read_sound = let k = touched_is.sound in rw served (record { placing = k.placing; holding = k.holding; sizes = k.sizes; tallied = k.tallied })
+
+      pub read_after : seen w' ≡ after_read (seen v) x b
+      read_after = rw (served, accepted_serves) (ap read_one touched_is.shows)
+
+    -- the write served into it
+    module _ (w' : View State) (served : w' ≡ write_view w f b) where
+      pub write_turned : Turned r Write v x (length b) w'
+      write_turned = rw served (turned Write (write_view w f b) (λ n. absurd (true≢false (sym accepted_serves ∙ n)))
+          (rw (stored_held w.store f b)) (rw (stored_held w.store f b)) refl refl
+          (λ y. rw (stored_dirty w.store f accepted_at.0 touched_is.sound.holding.apart y b, accepted_at.1, accepted_serves)
+          (ap (λ c. eqb y x || c) (rw accepted_serves at (dirty_is y)))))
+
+      pub write_sound : Sound r w'
       write_sound =
           let k = touched_is.sound in
-          rw put (record { placing = rw (stored_used w.store f b) k.placing; holding = stored_holds w.store k.holding f accepted_at.0 b q.long; sizes = k.sizes; tallied = k.tallied })
+          rw served (record {
+            placing = rw (stored_used w.store f b) k.placing;
+            holding = stored_holds w.store k.holding f accepted_at.0 b q.long;
+            sizes = k.sizes;
+            tallied = k.tallied;
+          })
 
-      pub write_after : t.reads ≡ w.reads → t.writes ≡ raised w.writes → seen (counted w s t) ≡ after_write (seen v) x b
-      write_after u e =
+      pub write_after : seen w' ≡ after_write (seen v) x b
+      write_after =
           let k = touched_is.sound in
-          rw (accepted_serves, put, u, e, stored_shows w.store k.holding f accepted_at.0 b, accepted_at.1)
-          (ap (λ m. written_one m x b) touched_is.shows)
-
-      pub write_turned : Turned r Write v x (length b) (counted w s t)
-      write_turned = turned Write (counted w s t) (λ n. absurd (true≢false (sym accepted_serves ∙ n)))
-          (rw (put, stored_held w.store f b)) (rw (put, stored_held w.store f b)) refl refl
-          (λ y. rw (put, stored_dirty w.store f accepted_at.0 touched_is.sound.holding.apart y b, accepted_at.1, accepted_serves)
-          (ap (λ c. eqb y x || c) (rw accepted_serves at (dirty_is y))))
+          rw (served, accepted_serves, stored_shows w.store k.holding f accepted_at.0 b, accepted_at.1) (ap (λ m. written_one m x b) touched_is.shows)

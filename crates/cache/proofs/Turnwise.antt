@@ -77,22 +77,24 @@ module _ {D P Setting : Type 0} (d : disks.Ghosts D) (p : policies.Ghosts P Sett
 
   -- a run, from its start and the turns taken
   pub ran : Conservative p.rules → (s : SetUpCache D P) (c c' : Cache D P) (ts ts' : List Turn) → Begins d p s c → TakesTurns d p c ts ts' c' → Runs d p s ts ts' c'
-  ran law s c c' ts ts' b k setting first =
-      let o = origin d p s setting in
-      let q = taken_all k in
-      let t = q.2 o [] (b.taken setting first) in
-      let promise = promise_of p.rules law o q.0 (view d p c') t in
-      record {
-        started = c;
-        begins = b;
-        turns = k;
-        events = q.0;
-        reported = q.1;
-        alone = all_alone (alone o) done q.1 promise.answers;
-        shows = promise.shows ∙ alone_turns (alone o) q.1;
-        taken = t;
-        promise = promise;
-      }
+  ran law s c c' ts ts' b k = record {
+    ran = λ setting first.
+        let o = origin d p s setting in
+        let q = taken_all k in
+        let t = q.2 o [] (b.taken setting first) in
+        let promise = promise_of p.rules law o q.0 (view d p c') t in
+        record {
+          started = c;
+          begins = b;
+          turns = k;
+          events = q.0;
+          reported = q.1;
+          alone = all_alone (alone o) done q.1 promise.answers;
+          shows = promise.shows ∙ alone_turns (alone o) q.1;
+          taken = t;
+          promise = promise;
+        };
+  }
 
   turns_push : {c c' c'' : Cache D P} {ts ts' : List Turn} {t t' : Turn} → TakesTurns d p c ts ts' c' → TakesTurn d p c' t t' c'' →
       TakesTurns d p c (ts ++ (t ∷ [])) (ts' ++ (t' ∷ [])) c''

@@ -62,5 +62,5 @@ module _ {D P Setting : Type 0} (d : disks.Ghosts D) (p : policies.Ghosts P Sett
     pub promise : Promise p.rules (origin d p s setting) events (view d p c)
 
   -- whatever the setting was whose first state the policy is in
-  abbrev pub Runs : SetUpCache D P → List Turn → List Turn → Cache D P → Type 0
-  Runs s ts ts' c = (setting : Setting) → FirstState d p s setting → Ran s setting ts ts' c
+  pub record Runs (s : SetUpCache D P) (ts ts' : List Turn) (c : Cache D P) : Type 0 where
+    pub ran : (setting : Setting) → FirstState d p s setting → Ran s setting ts ts' c

@@ -4,7 +4,7 @@ use Rattle.base.specs.declared.refusal.Refusal.{Refusal}
 use Rattle.disk.specs.Meaning.{raised, serves, read_one, written_one}
 use Rattle.base.specs.Lists.{member, place_in}
 use Rattle.policy.specs.Machine.{Rules}
-use Rattle.cache.specs.Places.{used, place_at, held, installed, cleaned}
+use Rattle.cache.specs.Places.{used, place_at, held, stored, installed, cleaned}
 use Rattle.cache.specs.View.{View}
 
 -- a read served below
@@ -16,6 +16,13 @@ abbrev pub backed_view : {State : Type 0} → View State → ℕ → View State
 backed_view v p = cond (place_at v.store p).dirty
     (record v { below = written_one v.below (place_at v.store p).sector (place_at v.store p).block; store = cleaned v.store p })
     v
+
+-- a read served from a place, and a write into one
+abbrev pub read_view : {State : Type 0} → View State → View State
+read_view v = record v { reads = raised v.reads }
+
+abbrev pub write_view : {State : Type 0} → View State → ℕ → List ℕ → View State
+write_view v p b = record v { store = stored v.store p b; writes = raised v.writes }
 
 -- a place in use so
 abbrev pub vacated_view : {State : Type 0} → View State → ℕ → View State

@@ -1,8 +1,8 @@
 // A whole run: a cache is started and takes the turns of several tasks, one after another.
 ghost use Rattle.std.specs.Prelude.{◌≡◌};
 ghost use Rattle.cache.specs.Reading.{Safe};
-ghost use Rattle.cache.specs.SetUp.{Ready};
-ghost use Rattle.cache.specs.Runs.{TakesTurn, TakesTurns, Runs};
+ghost use Rattle.cache.specs.SetUp.{Ready, Begins};
+ghost use Rattle.cache.specs.Runs.{TakesTurn, Runs};
 
 use crate::cache::Cache;
 use crate::set_up::SetUpCache;
@@ -25,11 +25,11 @@ fn take_turn<D: Disk, P: Policy>(cache: &mut Cache<D, P>, turn: &mut Turn)
     }
 }
 
-// Takes turns one after another.
+// Takes turns one after another: a run, whatever set-up cache this one was started from.
 fn take_turns<D: Disk, P: Policy>(cache: &mut Cache<D, P>, turns: &mut [Turn])
     requires { Safe D.Disk P.Policy cache.old }
     ensures kept { Safe D.Disk P.Policy cache.new }
-    ensures takes { TakesTurns D.Disk P.Policy cache.old turns.old turns.new cache.new }
+    ensures runs { (s : SetUpCache D P) → Begins D.Disk P.Policy s cache.old → Runs D.Disk P.Policy s turns.old turns.new cache.new }
 {
     for turn in turns.iter_mut() {
         take_turn(cache, turn);

@@ -43,8 +43,7 @@ impl<D: Disk, P: Policy> Cache<D, P> {
             return Err(Refusal::BufferLength);
         }
         let place = self.touch(sector)?;
-        self.store.copy_out(place, buffer);
-        self.tallies.count_read();
+        self.serve_read(place, buffer);
         Ok(())
     }
 
@@ -61,8 +60,7 @@ impl<D: Disk, P: Policy> Cache<D, P> {
             return Err(Refusal::BufferLength);
         }
         let place = self.touch(sector)?;
-        self.store.copy_in(place, buffer);
-        self.tallies.count_write();
+        self.serve_write(place, buffer);
         Ok(())
     }
 

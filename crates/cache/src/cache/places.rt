@@ -2,7 +2,7 @@
 ghost use Rattle.std.specs.Prelude.{◌≡◌, ℕ, ◌<◌, ◌≤◌, true, false, length, if◌then◌else◌};
 ghost use Rattle.disk.specs.Meaning.{answer, serves};
 ghost use Rattle.cache.specs.Places.{used, place_at};
-ghost use Rattle.cache.specs.Steps.{backed_view, fetched_view, touched_view, used_frame, next_place, place_of, with_place};
+ghost use Rattle.cache.specs.Steps.{read_view, write_view, backed_view, fetched_view, touched_view, used_frame, next_place, place_of, with_place};
 ghost use Rattle.cache.specs.Reading.{view, Safe};
 
 use super::Cache;
@@ -67,6 +67,29 @@ impl<D: Disk, P: Policy> Cache<D, P> {
             }
             None => self.fetch(sector),
         }
+    }
+
+    // Serves a read from a place.
+    pub(crate) fn serve_read(&mut self, place: usize, buffer: &mut [u8])
+        requires within { (place < used self.old.store) × (length buffer.old ≡ 512) }
+        requires under { D.Disk.sound self.old.below }
+        ensures under { D.Disk.sound self.new.below }
+        ensures after { view D.Disk P.Policy self.new ≡ read_view (view D.Disk P.Policy self.old) }
+        ensures fills { buffer.new ≡ (place_at self.old.store place).block }
+    {
+        self.store.copy_out(place, buffer);
+        self.tallies.count_read();
+    }
+
+    // Serves a write into a place, which is dirty from then on.
+    pub(crate) fn serve_write(&mut self, place: usize, buffer: &[u8])
+        requires within { (place < used self.old.store) × (length buffer.now ≡ 512) }
+        requires under { D.Disk.sound self.old.below }
+        ensures under { D.Disk.sound self.new.below }
+        ensures after { view D.Disk P.Policy self.new ≡ write_view (view D.Disk P.Policy self.old) place buffer.now }
+    {
+        self.store.copy_in(place, buffer);
+        self.tallies.count_write();
     }
 
     // Tells the policy of a hit. A frame that holds a sector is filled, so the use is never refused.

@@ -43,22 +43,25 @@ returns-in_err-place g c =
       takes = read_taken g.P.Policy.rules _ _ _ _ _ _ answers done fills after;
     }
 
-pub copy_out-requires : goal.copy_out-requires
-copy_out-requires g c =
-    let q = asked g (goal.at.copy_out-requires g c).After-touch in
-    ((accepted_at q _ (sym c.in_ok-place.was ∙ c.touch.ensures.answers)).0, q.long)
+pub serve_read-requires : goal.serve_read-requires
+serve_read-requires g c =
+    let q = asked g (goal.at.serve_read-requires g c).After-touch in
+    record {
+      within = ((accepted_at q _ (sym c.in_ok-place.was ∙ c.touch.ensures.answers)).0, q.long);
+      under = c.touch.ensures.under;
+    }
 
 pub returns : goal.returns
 returns g c =
     let q = asked g (goal.at.returns g c).After-touch in
     let accepted = sym c.in_ok-place.was ∙ c.touch.ensures.answers in
-    let t = c.count_read.new.self in
+    let is = c.serve_read.ensures.after in
     let answers = accepted_answer q _ accepted in
-    let after = read_after q _ accepted t c.count_read.ensures.reads c.count_read.ensures.writes in
-    let fills = c.copy_out.ensures ∙ read_fills q _ accepted in
-    let done = read_turned q _ accepted t in
+    let after = read_after q _ accepted _ is in
+    let fills = c.serve_read.ensures.fills ∙ read_fills q _ accepted in
+    let done = read_turned q _ accepted _ is in
     record {
-      kept = record { under = c.touch.ensures.under; own = read_sound q _ accepted t };
+      kept = record { under = c.serve_read.ensures.under; own = read_sound q _ accepted _ is };
       answers = answers;
       after = after;
       fills = fills;

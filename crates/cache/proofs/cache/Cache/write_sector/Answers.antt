@@ -40,21 +40,24 @@ returns-in_err-place g c =
       takes = write_taken g.P.Policy.rules _ _ _ _ _ answers done after;
     }
 
-pub copy_in-requires : goal.copy_in-requires
-copy_in-requires g c =
-    let q = asked g (goal.at.copy_in-requires g c).After-touch in
-    ((accepted_at q _ (sym c.in_ok-place.was ∙ c.touch.ensures.answers)).0, q.long)
+pub serve_write-requires : goal.serve_write-requires
+serve_write-requires g c =
+    let q = asked g (goal.at.serve_write-requires g c).After-touch in
+    record {
+      within = ((accepted_at q _ (sym c.in_ok-place.was ∙ c.touch.ensures.answers)).0, q.long);
+      under = c.touch.ensures.under;
+    }
 
 pub returns : goal.returns
 returns g c =
     let q = asked g (goal.at.returns g c).After-touch in
     let accepted = sym c.in_ok-place.was ∙ c.touch.ensures.answers in
-    let t = c.count_write.new.self in
+    let is = c.serve_write.ensures.after in
     let answers = accepted_answer q _ accepted in
-    let after = write_after q _ accepted _ c.copy_in.ensures t c.count_write.ensures.reads c.count_write.ensures.writes in
-    let done = write_turned q _ accepted _ c.copy_in.ensures t in
+    let after = write_after q _ accepted _ is in
+    let done = write_turned q _ accepted _ is in
     record {
-      kept = record { under = c.touch.ensures.under; own = write_sound q _ accepted _ c.copy_in.ensures t };
+      kept = record { under = c.serve_write.ensures.under; own = write_sound q _ accepted _ is };
       answers = answers;
       after = after;
       turned = done;
