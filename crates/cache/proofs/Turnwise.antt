@@ -60,7 +60,7 @@ module _ {State : Type 0} (m : Meaning) where
       let bytes : bytes_after m es ≡ (λ x. latest m (m.bytes x) x ts) = fun_ext (λ x. sym (latest_same k (m.bytes x) x)) in
       let reads : count_by (reads_in m) ts ≡ count_by (read_accepted m) es = counted_same (reads_in m) (read_accepted m) (λ t t' e q. rw (q.asked, q.of, q.before)) k in
       let writes : count_by (writes_in m) ts ≡ count_by (write_accepted m) es = counted_same (writes_in m) (write_accepted m) (λ t t' e q. rw (q.asked, q.of, q.before)) k in
-      rw (bytes, reads, writes, zero-add, zero-add)
+      rw (bytes, reads, writes, zero-add (count_by (read_accepted m) es), zero-add (count_by (write_accepted m) es))
 
 module _ {D P Setting : Type 0} (d : disks.Ghosts D) (p : policies.Ghosts P Setting) where
   taken_all : {c c' : Cache D P} {ts ts' : List Turn} → TakesTurns d p c ts ts' c' → (es : List (Event p.State)) × Reported ts ts' es ×
