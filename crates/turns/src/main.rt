@@ -16,13 +16,7 @@ fn turn(
     len: usize,
 ) -> Result<Turn, AllocError> {
     let buffer = vec![in heap; byte; len]?;
-    Ok(Turn {
-        task,
-        request,
-        sector,
-        buffer,
-        answer: None,
-    })
+    Ok(Turn::new(task, request, sector, buffer))
 }
 
 // What is served: the first image has sectors 0 and 1, the second 2 to 4, of which sector 3 is dead.

@@ -30,22 +30,12 @@ pub fn turns_of(heap: Global, keys: &[VolumeKey]) -> Result<Vec<Turn>, AllocErro
         .iter()
         .enumerate()
         .map(|(place, key)| -> Result<Turn, AllocError> {
-            Ok(Turn {
-                task: (place % TASKS) as u8 + 1,
-                request: request_at(place),
-                sector: image_sector(key),
-                buffer: vec![in heap; (place % 251) as u8; SECTOR_BYTES]?,
-                answer: None,
-            })
+            let task = (place % TASKS) as u8 + 1;
+            let buffer = vec![in heap; (place % 251) as u8; SECTOR_BYTES]?;
+            Ok(Turn::new(task, request_at(place), image_sector(key), buffer))
         })
         .try_collect(heap)?;
-    turns.push(Turn {
-        task: 1,
-        request: Request::Flush,
-        sector: 0,
-        buffer: Vec::new(heap),
-        answer: None,
-    })?;
+    turns.push(Turn::new(1, Request::Flush, 0, Vec::new(heap)))?;
     Ok(turns)
 }
 
