@@ -2,6 +2,7 @@
 ghost use Rattle.std.specs.Prelude.{◌≡◌, IfOk, vec_len};
 ghost use Rattle.trace.specs.Touches.{judged, Written};
 ghost use Rattle.sheet.specs.Rows.{touches_for, sheet_of};
+ghost use Rattle.planning.specs.Plan.{answer_of};
 ghost use Rattle.sheet.specs.PlanLines.{line_of};
 ghost use Rattle.planner.specs.Recordings.{lent_by, most_lent};
 
@@ -40,7 +41,7 @@ impl Recording {
 
     // The plan for so many frames by a schedule on a smaller number, and what each policy fetches.
     pub fn plan(&mut self, frames: usize, smaller: usize) -> Result<PlanLine, ReplayFault>
-        ensures answer { result ≡ line_of self.old.text.items (lent_by self.old) frames smaller }
+        ensures answer { result ≡ answer_of (line_of self.old.text.items (lent_by self.old) frames smaller) }
         ensures text { self.new.text ≡ self.old.text }
         ensures keys { Written (judged self.old.text.items (vec_len self.old.keys)) self.old.keys.items self.new.keys.items }
     {

@@ -9,7 +9,7 @@ use Rattle.base.specs.declared.refusal.Refusal.{Refusal}
 use Rattle.policy.specs.Machine.{Rules}
 use Rattle.planning.specs.declared.plan.Plan.{Plan}
 use Rattle.planning.specs.Minimum.{min_keys, min_serves, min_fetches}
-use Rattle.planning.specs.Plan.{Places, room_in, enough, ceiling, plan_answer, planning_of, forecast_of, planned, forecasted, answer_of, serving_after}
+use Rattle.planning.specs.Plan.{Planning, Places, room_in, enough, ceiling, plan_answer, planning_of, forecast_of, planned, forecasted, answer_of, serving_after}
 use Rattle.planning.specs.Replay.{most_touches, lists_answer}
 use Rattle.planning.proofs.Judged.{never, same_ok}
 
@@ -102,15 +102,19 @@ pub serves_length : (h : ℕ) (keys touches : List ℕ) → length (min_serves h
 serves_length h keys [] = refl
 serves_length h keys (x ∷ rest) = ap suc (serves_length h (min_keys h keys x rest) rest)
 
--- where planning answers a plan, they stand at the front of the serving list
-served_by : (touches : List ℕ) (k h : ℕ) (judged : Result (Unit {0}) Refusal) (a : Plan) (old : List ℕ) → Ok a ≡ answer_of (result_and judged (Ok (planning_of touches k h))) →
-    serving_after (result_and judged (Ok (planning_of touches k h))) old ≡ min_serves h [] touches ++ drop (length touches) old
-served_by touches k h (Ok tt) a old e = ap (λ n. min_serves h [] touches ++ drop n old) (serves_length h [] touches)
-served_by touches k h (Err r) a old e = absurd (never r a (sym e))
+-- what is handed out where nothing is refused: then all was judged good, and the frames stand at the front of the serving list
+pub handed_judged : {A E : Type 0} (judged : Result (Unit {0}) E) (p : Planning A) (a : A) → Ok a ≡ answer_of (result_and judged (Ok p)) → judged ≡ Ok tt
+handed_judged (Ok tt) p a e = refl
+handed_judged (Err r) p a e = absurd (never r a (sym e))
+
+pub handed_serving : {A E : Type 0} (judged : Result (Unit {0}) E) (p : Planning A) (a : A) (old : List ℕ) → Ok a ≡ answer_of (result_and judged (Ok p)) →
+    serving_after (result_and judged (Ok p)) old ≡ p.serving ++ drop (length p.serving) old
+handed_serving judged p a old e = rw (handed_judged judged p a e)
 
 pub planned_serving : (touches : List ℕ) (k h : ℕ) (p : Places) (a : Plan) (old : List ℕ) → Ok a ≡ answer_of (planned touches k h p) →
     serving_after (planned touches k h p) old ≡ min_serves h [] touches ++ drop (length touches) old
-planned_serving touches k h p = served_by touches k h (plan_answer (length touches) k h h p)
+planned_serving touches k h p a old e =
+    handed_serving (plan_answer (length touches) k h h p) (planning_of touches k h) a old e ∙ ap (λ n. min_serves h [] touches ++ drop n old) (serves_length h [] touches)
 
 -- MIN fetches at most once a touch
 pub min_most : (h : ℕ) (keys touches : List ℕ) → min_fetches h keys touches ≤ length touches

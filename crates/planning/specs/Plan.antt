@@ -49,12 +49,12 @@ pub record Planning (A : Type 0) : Type 0 where
   pub serving : List ℕ
 
 -- the answer, or the refusal
-abbrev pub answer_of : {A : Type 0} → Result (Planning A) Refusal → Result A Refusal
+abbrev pub answer_of : {A E : Type 0} → Result (Planning A) E → Result A E
 answer_of (Ok p) = Ok p.answer
 answer_of (Err e) = Err e
 
 -- the serving list afterwards: the frames of the touches, and behind them what stood there; after a refusal what it was
-abbrev pub serving_after : {A : Type 0} → Result (Planning A) Refusal → List ℕ → List ℕ
+abbrev pub serving_after : {A E : Type 0} → Result (Planning A) E → List ℕ → List ℕ
 serving_after (Ok p) old = p.serving ++ drop (length p.serving) old
 serving_after (Err e) old = old
 

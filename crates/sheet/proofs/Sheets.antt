@@ -82,3 +82,11 @@ judged_more text p q ts l e = elim (cases_Bool (leb (length text) 32768)) [
 pub counted_some : (r : Result (List ℕ) ReplayFault) (n : ℕ) → Ok n ≡ counted r → (ts : List ℕ) × (r ≡ Ok ts) × (n ≡ length ts)
 counted_some (Ok ts) n e = (ts, refl, same_ok _ _ e)
 counted_some (Err f) n e = absurd (never _ _ (sym e))
+
+-- the serving list after the same schedule has served the touches twice, and three times
+served_again : (ms a b c : List ℕ) → b ≡ ms ++ drop (length ms) a → c ≡ ms ++ drop (length ms) b → c ≡ ms ++ drop (length ms) a
+served_again ms a b c eb ec = ec ∙ rw eb (ap (λ l. ms ++ l) (drop_at ms (drop (length ms) a) (length ms) refl))
+
+pub served_thrice : (ms a b c d : List ℕ) → b ≡ ms ++ drop (length ms) a → c ≡ ms ++ drop (length ms) b → d ≡ ms ++ drop (length ms) c →
+    d ≡ ms ++ drop (length ms) a
+served_thrice ms a b c d eb ec ed = served_again ms a c d (served_again ms a b c eb ec) ed

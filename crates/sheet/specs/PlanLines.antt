@@ -1,12 +1,14 @@
 -- What the line of a plan has, and how it is printed. Assumes nothing.
-use Rattle.std.specs.Prelude.{ℕ, max, List, ◌∷◌, ◌++◌, length, Ok, Err, Result, decimal}
+use Rattle.std.specs.Prelude.{ℕ, max, List, [], ◌∷◌, ◌++◌, length, Ok, Err, Result, decimal}
+use Rattle.std.specs.Result.{result_and}
 use Rattle.base.specs.declared.refusal.Refusal.{Refusal}
 use Rattle.policy.specs.Machine.{start, fetches}
 use Rattle.policy.specs.Lru.{lru_rules}
 use Rattle.policy.specs.Fifo.{fifo_rules}
 use Rattle.policy.specs.Clock.{clock_rules}
 use Rattle.planning.specs.Bounds.{Bounded}
-use Rattle.planning.specs.Plan.{Places, plan_of, plan_answer}
+use Rattle.planning.specs.Minimum.{min_serves}
+use Rattle.planning.specs.Plan.{Places, Planning, plan_of, plan_answer}
 use Rattle.trace.specs.declared.fault.ReplayFault.{ReplayFault}
 use Rattle.trace.specs.declared.fault.ReplayFault.TheVariants as replay_fault
 use Rattle.trace.specs.Accesses.{and_then}
@@ -26,17 +28,19 @@ line_at touches k h = record {
   clock = fetches clock_rules (start clock_rules tt k) touches;
 }
 
--- the same, or what planning refuses; the held-key list has a place for each frame of either number
-abbrev pub lined : List ℕ → ℕ → ℕ → Places → Result PlanLine Refusal
-lined touches k h p = and_then (plan_answer (length touches) k h (max k h) p) (λ accepted. Ok (line_at touches k h))
+-- What planning a line hands out, the frames that serve the touches too, or what it refuses. The held-key list has a place for each
+-- frame of either number.
+abbrev pub lined : List ℕ → ℕ → ℕ → Places → Result (Planning PlanLine) Refusal
+lined touches k h p =
+    result_and (plan_answer (length touches) k h (max k h) p) (Ok (record { answer = line_at touches k h; serving = min_serves h [] touches }))
 
 -- a refusal that no line of a trace is to blame for
 abbrev pub in_replay : {T : Type 0} → Result T Refusal → Result T ReplayFault
 in_replay (Ok x) = Ok x
 in_replay (Err r) = Err (replay_fault.Refused r)
 
--- the plan's line for a text, or its fault
-abbrev pub line_of : List ℕ → Lent → ℕ → ℕ → Result PlanLine ReplayFault
+-- the same for a text, or its fault
+abbrev pub line_of : List ℕ → Lent → ℕ → ℕ → Result (Planning PlanLine) ReplayFault
 line_of text l k h = and_then (judged text l.keys) (λ touches. in_replay (lined touches k h l.lists))
 
 -- the touches that are read from a text into so many places, and none of a refused one

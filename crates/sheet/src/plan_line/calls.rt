@@ -1,7 +1,7 @@
 // What a plan's line has, from a list of keys and from the text of a trace.
-ghost use Rattle.std.specs.Prelude.{◌≡◌, [], ◌++◌, false, map, length, take, drop, is_ok, IfOk, if◌then◌else◌};
+ghost use Rattle.std.specs.Prelude.{◌≡◌, false, map, length, take, is_ok, IfOk};
 ghost use Rattle.trace.specs.Touches.{judged, Written};
-ghost use Rattle.planning.specs.Minimum.{min_serves};
+ghost use Rattle.planning.specs.Plan.{answer_of, serving_after};
 ghost use Rattle.planning.specs.Lists.{places, Unchanged, SameLists};
 ghost use Rattle.sheet.specs.Rows.{lent};
 ghost use Rattle.sheet.specs.PlanLines.{lined, line_of, read_from, WithinCeiling};
@@ -19,10 +19,9 @@ pub fn plan_of_keys<K: Key>(
     smaller: usize,
     lists: &mut Lists<'_, K>,
 ) -> Result<PlanLine, Refusal>
-    ensures answer { result ≡ lined (map K.Key.code keys.now) frames smaller (places lists.old) }
-    ensures serving { lists.new.serving.now ≡ (if is_ok result
-        then min_serves smaller [] (map K.Key.code keys.now) ++ drop (length keys.now) lists.old.serving.now
-        else lists.old.serving.now) }
+    ensures answer { result ≡ answer_of (lined (map K.Key.code keys.now) frames smaller (places lists.old)) }
+    ensures serving { lists.new.serving.now
+        ≡ serving_after (lined (map K.Key.code keys.now) frames smaller (places lists.old)) lists.old.serving.now }
     ensures bounded { IfOk result (λ line.
         WithinCeiling line (map K.Key.code keys.now) (take (length keys.now) lists.new.serving.now)) }
     ensures refused { is_ok result ≡ false → Unchanged lists.old lists.new }
@@ -49,12 +48,10 @@ pub fn plan_of_trace(
     smaller: usize,
     lists: &mut Lists<'_, VolumeKey>,
 ) -> Result<PlanLine, ReplayFault>
-    ensures answer { result ≡ line_of text.now (lent keys.old lists.old) frames smaller }
+    ensures answer { result ≡ answer_of (line_of text.now (lent keys.old lists.old) frames smaller) }
     ensures keys { Written (judged text.now (length keys.old)) keys.old keys.new }
-    ensures serving { lists.new.serving.now ≡ (if is_ok result
-        then (let touches = read_from text.now (length keys.old) in
-        min_serves smaller [] touches ++ drop (length touches) lists.old.serving.now)
-        else lists.old.serving.now) }
+    ensures serving { lists.new.serving.now
+        ≡ serving_after (line_of text.now (lent keys.old lists.old) frames smaller) lists.old.serving.now }
     ensures bounded { IfOk result (λ line.
         let touches = read_from text.now (length keys.old) in WithinCeiling line touches (take (length touches) lists.new.serving.now)) }
     ensures refused { is_ok result ≡ false → Unchanged lists.old lists.new }

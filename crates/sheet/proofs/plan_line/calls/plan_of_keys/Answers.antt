@@ -1,0 +1,28 @@
+use Rattle.std.proofs.Common.{max, [], map, length, sym, ◌∙◌}
+use Rattle.policy.specs.Lru.{lru_rules}
+use Rattle.policy.specs.Fifo.{fifo_rules}
+use Rattle.policy.specs.Clock.{clock_rules}
+use Rattle.planning.specs.Lists.{places}
+use Rattle.planning.specs.Minimum.{min_serves}
+use Rattle.planning.specs.Plan.{plan_answer, forecast_of}
+use Rattle.planning.proofs.Plans.{handed_judged, handed_serving}
+use Rattle.sheet.proofs.Sheets.{served_thrice}
+use Rattle.sheet.proofs.plan_line.calls.plan_of_keys.Goals as goal
+
+-- each of the three plans serves the touches by the same frames, as the first is judged
+pub returns-clause-serving : goal.returns-clause-serving
+returns-clause-serving g c =
+    let touches = map g.K.Key.code c.args.keys.now in
+    let k = c.args.frames in
+    let h = c.args.smaller in
+    let first = c.args.lists.now in
+    let second = c.forecast_touches.new.lists in
+    let third = c.forecast_touches-2.new.lists in
+    let lru = sym c.in_ok-lru.was ∙ c.forecast_touches.ensures.answer in
+    let fifo = sym c.in_ok-fifo.was ∙ c.forecast_touches-2.ensures.answer in
+    let clock = sym c.in_ok-clock.was ∙ c.forecast_touches-3.ensures.answer in
+    let a = c.forecast_touches.ensures.serving ∙ handed_serving (plan_answer (length touches) k h (max k h) (places first)) (forecast_of lru_rules tt touches k h) _ first.serving.now lru in
+    let b = c.forecast_touches-2.ensures.serving ∙ handed_serving (plan_answer (length touches) k h (max k h) (places second)) (forecast_of fifo_rules tt touches k h) _ second.serving.now fifo in
+    let d = c.forecast_touches-3.ensures.serving ∙ handed_serving (plan_answer (length touches) k h (max k h) (places third)) (forecast_of clock_rules tt touches k h) _ third.serving.now clock in
+    let judged = handed_judged (plan_answer (length touches) k h (max k h) (places first)) (forecast_of lru_rules tt touches k h) _ lru in
+    rw judged (served_thrice (min_serves h [] touches) _ _ _ _ a b d)
