@@ -19,7 +19,7 @@ use Rattle.cache.specs.View.{View, seen, machine}
 use Rattle.cache.specs.Steps.{next_place}
 use Rattle.cache.specs.Requests.{Turned, misses, fetched_below}
 use Rattle.cache.specs.Flush.{Flushed}
-use Rattle.cache.specs.Events.{Event, Each, Took, AsAlone, Asks, Served, nothing, reads, reads_writes, accesses, bytes_after, alone_after, latest_write, read_accepted, write_accepted, touch_of, touches_of, cache_after}
+use Rattle.cache.specs.Events.{Event, Each, Took, AsAlone, Serves, Served, nothing, reads, reads_writes, accesses, bytes_after, alone_after, latest_write, read_accepted, write_accepted, touch_of, touches_of, cache_after}
 use Rattle.cache.specs.Promise.{Origin, Begun, Taken, Counted, alone, touches, machine_fetches}
 
 module _ {State : Type 0} where
@@ -127,8 +127,8 @@ module _ {Setting State : Type 0} (r : Rules Setting State) where
   idle_turn v true m F F' e q low room = absurd (omega arith)
   idle_turn v false m F F' e q low room = e
 
-  asks_of : (v : View State) (e : Event State) → Took r v e → Asks v e
-  asks_of v e k = record {
+  serves_of : (v : View State) (e : Event State) → Took r v e → Serves v e
+  serves_of v e k = record {
     few = λ a. served_turn v (misses r v e.sector (length e.before)) e.cache.below (k.turned a).below;
     idle = λ a low room. idle_turn v (misses r v e.sector (length e.before)) e.cache.below v.fetched e.cache.fetched (k.turned a).below (k.turned a).counts low room;
     flush_reads = λ f. (k.flushed f).reads;
@@ -165,7 +165,7 @@ module _ {Setting State : Type 0} (r : Rules Setting State) where
       pub reads : v.below.reads ≡ min ((alone o).reads + machine_fetches r o es) largest_tally
       pub turnwise : Each (Counted r o) [] es
       pub answers : Each (AsAlone (alone o)) [] es
-      pub asks : Each (λ past e. Asks (cache_after o.cache past) e) [] es
+      pub asks : Each (λ past e. Serves (cache_after o.cache past) e) [] es
 
     facts_none : Begun r o → Facts [] o.cache
     facts_none b = record {
@@ -199,7 +199,7 @@ module _ {Setting State : Type 0} (r : Rules Setting State) where
           reads = rw more (count_more n₀ (machine v) (touches o es) b x f.frames m.reads v.below.reads e.cache.below.reads f.reads c.reads);
           turnwise = each_push (Counted r o) [] es e f.turnwise counts;
           answers = each_push (AsAlone m) [] es e f.answers (as_alone m es v e f.shows k.answers k.fills (λ q. (k.flushed q).bytes));
-          asks = each_push (λ past d. Asks (cache_after o.cache past) d) [] es e f.asks (rw is at (asks_of v e k));
+          asks = each_push (λ past d. Serves (cache_after o.cache past) d) [] es e f.asks (rw is at (serves_of v e k));
         }
 
     -- turn by turn

@@ -16,21 +16,27 @@ use Rattle.cache.specs.declared.set_up.SetUpCache.{SetUpCache}
 use Rattle.policy.specs.Law.{Conservative}
 use Rattle.cache.specs.SetUp.{Begins, origin}
 use Rattle.cache.specs.Promise.{alone}
-use Rattle.cache.specs.Runs.{Report, Reported, done, more, unserved, TakesTurn, TakesTurns, none, Runs}
+use Rattle.cache.specs.Runs.{Report, unserved, TakesTurn, TakesTurns, TakesOne, none, more, Runs}
 use Rattle.cache.proofs.Takings.{taken_push}
 use Rattle.cache.proofs.Promises.{promise_of}
 use Rattle.std.proofs.Common.{append_assoc}
 use Rattle.std.proofs.lemmas.List.{append-nil}
 
+-- the events of a list of turns, in order
+data Reported {State : Type 0} : List Turn → List Turn → List (Event State) → Type 0 where
+  done : Reported [] [] []
+  next : {t t' : Turn} {e : Event State} {ts ts' : List Turn} {es : List (Event State)} → Report t t' e → Reported ts ts' es →
+      Reported (t ∷ ts) (t' ∷ ts') (e ∷ es)
+
 reported_push : {State : Type 0} {ts ts' : List Turn} {es : List (Event State)} {t t' : Turn} {e : Event State} → Reported ts ts' es → Report t t' e → Reported (ts ++ (t ∷ [])) (ts' ++ (t' ∷ [])) (es ++ (e ∷ []))
-reported_push done q = more q done
-reported_push (more p rest) q = more p (reported_push rest q)
+reported_push done q = next q done
+reported_push (next p rest) q = next p (reported_push rest q)
 
 -- turns whose events are those of the disk alone are answered as it answers them
 module _ {State : Type 0} (m : Meaning) where
   latest_same : {us us' : List Turn} {es : List (Event State)} → Reported us us' es → (first : List ℕ) (x : ℕ) → latest m first x us ≡ latest_write m first x es
   latest_same done first x = refl
-  latest_same (more q rest) first x = rw (q.asked, q.of, q.before) (latest_same rest _ x)
+  latest_same (next q rest) first x = rw (q.asked, q.of, q.before) (latest_same rest _ x)
 
   answered : {us us' : List Turn} {past : List (Event State)} {t t' : Turn} {e : Event State} → Reported us us' past → Report t t' e → AsAlone m past e → Answered m us t t'
   answered {t = t} p q a =
@@ -43,19 +49,19 @@ module _ {State : Type 0} (m : Meaning) where
         answers = q.answer ∙ ap Some (a.answers ∙ rw (q.asked, q.of, q.before));
       }
 
-  pub all_alone : {us us' ts ts' : List Turn} {past es : List (Event State)} → Reported us us' past → Reported ts ts' es → Each (AsAlone m) past es → AllAnswered m us ts ts'
+  all_alone : {us us' ts ts' : List Turn} {past es : List (Event State)} → Reported us us' past → Reported ts ts' es → Each (AsAlone m) past es → AllAnswered m us ts ts'
   all_alone p done a = tt
-  all_alone {us = us} {us' = us'} {past = past} p (more {t = t} {t' = t'} {e = e} {ts = ts} {ts' = ts'} {es = es} q rest) a =
+  all_alone {us = us} {us' = us'} {past = past} p (next {t = t} {t' = t'} {e = e} {ts = ts} {ts' = ts'} {es = es} q rest) a =
       (answered p q a.0, all_alone {us = us ++ (t ∷ [])} {us' = us' ++ (t' ∷ [])} (reported_push p q) rest a.1)
 
   -- and the disk alone is after the turns what it is after the events
   counted_same : {ts ts' : List Turn} {es : List (Event State)} (p : Turn → Bool) (q : Event State → Bool) →
       ((t t' : Turn) (e : Event State) → Report t t' e → p t ≡ q e) → Reported ts ts' es → count_by p ts ≡ count_by q es
   counted_same p q same done = refl
-  counted_same p q same (more {t = t} {t' = t'} {e = e} {ts = ts} {ts' = ts'} {es = es} k rest) =
+  counted_same p q same (next {t = t} {t' = t'} {e = e} {ts = ts} {ts' = ts'} {es = es} k rest) =
       sum_by-cons (λ s. cond (p s) 1 0) t ts ∙ rw (same t t' e k, counted_same p q same rest) (sym (sum_by-cons (λ s. cond (q s) 1 0) e es))
 
-  pub alone_turns : {ts ts' : List Turn} {es : List (Event State)} → Reported ts ts' es → alone_after m es ≡ after_turns (unserved m) ts
+  alone_turns : {ts ts' : List Turn} {es : List (Event State)} → Reported ts ts' es → alone_after m es ≡ after_turns (unserved m) ts
   alone_turns {ts = ts} {es = es} k =
       let bytes : bytes_after m es ≡ (λ x. latest m (m.bytes x) x ts) = fun_ext (λ x. sym (latest_same k (m.bytes x) x)) in
       let reads : count_by (reads_in m) ts ≡ count_by (read_accepted m) es = counted_same (reads_in m) (read_accepted m) (λ t t' e q. rw (q.asked, q.of, q.before)) k in
@@ -63,41 +69,38 @@ module _ {State : Type 0} (m : Meaning) where
       rw (bytes, reads, writes, zero-add (count_by (read_accepted m) es), zero-add (count_by (write_accepted m) es))
 
 module _ {D P Setting : Type 0} (d : disks.Ghosts D) (p : policies.Ghosts P Setting) where
-  taken_all : {c c' : Cache D P} {ts ts' : List Turn} → TakesTurns d p c ts ts' c' → (es : List (Event p.State)) × Reported ts ts' es ×
-      ((o : Origin Setting p.State) (past : List (Event p.State)) → Taken p.rules o past (view d p c) → Taken p.rules o (past ++ es) (view d p c'))
-  taken_all none = ([], done, λ o past t. rw (append-nil past) t)
-  taken_all (more k rest) =
-      let q = taken_all rest in (
-        k.event ∷ q.0,
-        more k.report q.1,
-        λ o past t.
-            rw (append_assoc past (k.event ∷ []) q.0) at (q.2 o (past ++ (k.event ∷ []))
-            (subst (Taken p.rules o (past ++ (k.event ∷ []))) k.leaves (taken_push p.rules o past _ k.event t k.took))),
-      )
+  reported : {c c' : Cache D P} {ts ts' : List Turn} {es : List (Event p.State)} → TakesTurns d p c ts ts' es c' → Reported ts ts' es
+  reported none = done
+  reported (more k rest) = next k.report (reported rest)
+
+  taken_all : {c c' : Cache D P} {ts ts' : List Turn} {es : List (Event p.State)} → TakesTurns d p c ts ts' es c' →
+      (o : Origin Setting p.State) (past : List (Event p.State)) → Taken p.rules o past (view d p c) → Taken p.rules o (past ++ es) (view d p c')
+  taken_all none o past t = rw (append-nil past) t
+  taken_all (more {e = e} {es = es} k rest) o past t =
+      rw (append_assoc past (e ∷ []) es) at
+      (taken_all rest o (past ++ (e ∷ [])) (subst (Taken p.rules o (past ++ (e ∷ []))) k.leaves (taken_push p.rules o past _ e t k.took)))
 
   -- a run, from its start and the turns taken
-  pub ran : Conservative p.rules → (s : SetUpCache D P) (c c' : Cache D P) (ts ts' : List Turn) → Begins d p s c → TakesTurns d p c ts ts' c' → Runs d p s ts ts' c'
-  ran law s c c' ts ts' b k = record {
+  pub ran : Conservative p.rules → (s : SetUpCache D P) (c c' : Cache D P) (ts ts' : List Turn) (es : List (Event p.State)) → Begins d p s c → TakesTurns d p c ts ts' es c' → Runs d p s ts ts' c'
+  ran law s c c' ts ts' es b k = record {
     ran = λ setting first.
         let o = origin d p s setting in
-        let q = taken_all k in
-        let t = q.2 o [] (b.taken setting first) in
-        let promise = promise_of p.rules law o q.0 (view d p c') t in
+        let t = taken_all k o [] (b.taken setting first) in
+        let promise = promise_of p.rules law o es (view d p c') t in
         record {
           started = c;
           begins = b;
+          events = es;
           turns = k;
-          events = q.0;
-          reported = q.1;
-          alone = all_alone (alone o) done q.1 promise.answers;
-          shows = promise.shows ∙ alone_turns (alone o) q.1;
+          alone = all_alone (alone o) done (reported k) promise.answers;
+          shows = promise.shows ∙ alone_turns (alone o) (reported k);
           taken = t;
           promise = promise;
         };
   }
 
-  turns_push : {c c' c'' : Cache D P} {ts ts' : List Turn} {t t' : Turn} → TakesTurns d p c ts ts' c' → TakesTurn d p c' t t' c'' →
-      TakesTurns d p c (ts ++ (t ∷ [])) (ts' ++ (t' ∷ [])) c''
+  turns_push : {c c' c'' : Cache D P} {ts ts' : List Turn} {es : List (Event p.State)} {t t' : Turn} {e : Event p.State} → TakesTurns d p c ts ts' es c' →
+      TakesTurn d p c' t t' e c'' → TakesTurns d p c (ts ++ (t ∷ [])) (ts' ++ (t' ∷ [])) (es ++ (e ∷ [])) c''
   turns_push none q = more q none
   turns_push (more k rest) q = more k (turns_push rest q)
 
@@ -105,13 +108,14 @@ module _ {D P Setting : Type 0} (d : disks.Ghosts D) (p : policies.Ghosts P Sett
   pub record Taking (c₀ : Cache D P) (us ts : List Turn) (i : ℕ) (c : Cache D P) : Type 0 where
     pub rest : drop i ts ≡ drop i us
     pub long : length ts ≡ length us
-    pub turns : TakesTurns d p c₀ (take i us) (take i ts) c
+    pub events : List (Event p.State)
+    pub turns : TakesTurns d p c₀ (take i us) (take i ts) events c
 
   pub taking_none : (c₀ : Cache D P) (us : List Turn) → Taking c₀ us us 0 c₀
-  taking_none c₀ us = record { rest = refl; long = refl; turns = none }
+  taking_none c₀ us = record { rest = refl; long = refl; events = []; turns = none }
 
   module _ (c₀ : Cache D P) (us ts : List Turn) (i : ℕ) (c : Cache D P) (q : Taking c₀ us ts i c) where
-    pub taking_more : (e t t' : Turn) (c' : Cache D P) → i < length ts → t ≡ get_or ts i e → TakesTurn d p c t t' c' → Taking c₀ us (set ts i t') (i + 1) c'
+    pub taking_more : (e t t' : Turn) (c' : Cache D P) → i < length ts → t ≡ get_or ts i e → TakesOne d p c t t' c' → Taking c₀ us (set ts i t') (i + 1) c'
     taking_more e t t' c' h is k =
         let h' : i < length us = rw q.long at h in
         let a = drop_more ts i e h in
@@ -123,10 +127,11 @@ module _ {D P Setting : Type 0} (d : disks.Ghosts D) (p : policies.Ghosts P Sett
         record {
           rest = drop-set-lt (i + 1) ts i t' (omega arith) ∙ tail;
           long = length-set ts i t' ∙ q.long;
-          turns = rw (front, take_more_set ts i t' h) (turns_push q.turns k);
+          events = q.events ++ (k.event ∷ []);
+          turns = rw (front, take_more_set ts i t' h) (turns_push q.turns k.taken);
         }
 
-    pub taking_all : length us ≤ i → TakesTurns d p c₀ us ts c
+    pub taking_all : length us ≤ i → TakesTurns d p c₀ us ts q.events c
     taking_all h =
         let a = take_all i us h in
         let b = take_all i ts (rw q.long h) in

@@ -90,9 +90,9 @@ pub data Served (m : Meaning) : Meaning → Type 0 where
   reads : Served m (read_one m)
   reads_writes : (x : ℕ) (b : List ℕ) → Served m (written_one (read_one m) x b)
 
--- What a turn of a cache v asks the disk below. A read or write turn: at most one read and one write, and nothing at all unless F rises or
--- stands at its largest value. A flush: no read, and one write for each dirty sector.
-pub record Asks {State : Type 0} (v : View State) (e : Event State) : Type 0 where
+-- What the disk below serves in a turn of a cache v. A read or write turn: at most one read and one write, and nothing at all unless F
+-- rises or stands at its largest value. A flush: no read, and one write for each dirty sector.
+pub record Serves {State : Type 0} (v : View State) (e : Event State) : Type 0 where
   pub few : accesses e.request ≡ true → Served v.below e.cache.below
   pub idle : accesses e.request ≡ true → e.cache.fetched ≤ v.fetched → v.fetched < largest_tally → e.cache.below ≡ v.below
   pub flush_reads : e.request ≡ Flush → e.cache.below.reads ≡ v.below.reads

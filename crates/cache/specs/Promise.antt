@@ -9,7 +9,7 @@ use Rattle.planning.specs.Replay.{most_touches}
 use Rattle.planning.specs.Plan.{Places, enough, Planning, planned, ceiling}
 use Rattle.cache.specs.Places.{pins, dirty, framed}
 use Rattle.cache.specs.View.{View, seen}
-use Rattle.cache.specs.Events.{Event, Each, Took, AsAlone, Asks, alone_after, touches_of, cache_after}
+use Rattle.cache.specs.Events.{Event, Each, Took, AsAlone, Serves, alone_after, touches_of, cache_after}
 
 -- What a cache was started with: the cache itself as it then was, the number of frames, and the policy's setting.
 pub record Origin (Setting State : Type 0) : Type 0 where
@@ -74,7 +74,7 @@ module _ {Setting State : Type 0} (r : Rules Setting State) (o : Origin Setting 
     -- the reads that the disk below has served since the start are these fetches
     pub reads : v.below.reads ≡ min ((alone o).reads + machine_fetches es) largest_tally
     -- what the disk below serves in each turn
-    pub below : Each (λ past e. Asks (cache_after o.cache past) e) [] es
+    pub below : Each (λ past e. Serves (cache_after o.cache past) e) [] es
     -- the bound against every demand schedule on h frames
     pub bound : (h d : ℕ) → 1 ≤ h → h ≤ o.frames → Demand h [] (touches o es) d →
         (o.frames - h + 1) * v.fetched ≤ o.frames * d + o.frames * (o.frames - h + 1)

@@ -33,8 +33,8 @@ module _ {Setting State : Type 0} (r : Rules Setting State) where
   dirty_after q v x len y =
       ((is_write q && serves (seen v) x len) && y == x) || (is_dirty v.store y && not (misses v x len && puts_out v y))
 
-  -- A read or write turn on sector x: it touches the frames or leaves them; a fetch, and no other turn, is counted and asks the disk
-  -- below. A refused turn changes nothing at all.
+  -- A read or write turn on sector x: it touches the frames or leaves them; a fetch, and no other turn, is counted and served by the
+  -- disk below. A refused turn changes nothing at all.
   pub record Turned (q : Request) (v : View State) (x len : ℕ) (v' : View State) : Type 0 where
     pub refused : serves (seen v) x len ≡ false → v' ≡ v
     pub pinned : pins v'.store ≡ pins v.store

@@ -24,37 +24,34 @@ pub record Report {State : Type 0} (t t' : Turn) (e : Event State) : Type 0 wher
   pub after : vec_items t'.buffer ≡ e.after
   pub answer : t'.answer ≡ Some e.answer
 
--- the events of a list of turns, in order
-pub data Reported {State : Type 0} : List Turn → List Turn → List (Event State) → Type 0 where
-  done : Reported [] [] []
-  more : {t t' : Turn} {e : Event State} {ts ts' : List Turn} {es : List (Event State)} → Report t t' e → Reported ts ts' es →
-      Reported (t ∷ ts) (t' ∷ ts') (e ∷ es)
-
 -- a disk with its tallies at 0
 abbrev pub unserved : Meaning → Meaning
 unserved m = record m { reads = 0; writes = 0 }
 
 module _ {D P Setting : Type 0} (d : disks.Ghosts D) (p : policies.Ghosts P Setting) where
-  -- one turn taken by a cache c, which then is c', as its call promises it
-  pub record TakesTurn (c : Cache D P) (t t' : Turn) (c' : Cache D P) : Type 0 where
-    pub event : Event p.State
-    pub report : Report t t' event
-    pub leaves : event.cache ≡ view d p c'
-    pub took : Took p.rules (view d p c) event
+  -- one turn taken by a cache c, which then is c', as its call promises it, and the event that it was
+  pub record TakesTurn (c : Cache D P) (t t' : Turn) (e : Event p.State) (c' : Cache D P) : Type 0 where
+    pub report : Report t t' e
+    pub leaves : e.cache ≡ view d p c'
+    pub took : Took p.rules (view d p c) e
 
   -- turns taken one after another, each by the cache that the one before left
-  pub data TakesTurns : Cache D P → List Turn → List Turn → Cache D P → Type 0 where
-    none : {c : Cache D P} → TakesTurns c [] [] c
-    more : {c c' c'' : Cache D P} {t t' : Turn} {ts ts' : List Turn} → TakesTurn c t t' c' → TakesTurns c' ts ts' c'' →
-        TakesTurns c (t ∷ ts) (t' ∷ ts') c''
+  pub data TakesTurns : Cache D P → List Turn → List Turn → List (Event p.State) → Cache D P → Type 0 where
+    none : {c : Cache D P} → TakesTurns c [] [] [] c
+    more : {c c' c'' : Cache D P} {t t' : Turn} {e : Event p.State} {ts ts' : List Turn} {es : List (Event p.State)} →
+        TakesTurn c t t' e c' → TakesTurns c' ts ts' es c'' → TakesTurns c (t ∷ ts) (t' ∷ ts') (e ∷ es) c''
+
+  -- one turn, whatever event it was
+  pub record TakesOne (c : Cache D P) (t t' : Turn) (c' : Cache D P) : Type 0 where
+    pub event : Event p.State
+    pub taken : TakesTurn c t t' event c'
 
   -- A run: a cache that was set up as s, started, and has taken the turns ts, which then are ts', is c. It keeps the whole promise.
   pub record Ran (s : SetUpCache D P) (setting : Setting) (ts ts' : List Turn) (c : Cache D P) : Type 0 where
     pub started : Cache D P
     pub begins : Begins d p s started
-    pub turns : TakesTurns started ts ts' c
     pub events : List (Event p.State)
-    pub reported : Reported ts ts' events
+    pub turns : TakesTurns started ts ts' events c
     -- the answers and buffers are those that the disk alone gives to the list, and the cache is the disk that it would be
     pub alone : AllAnswered (d.meaning s.below) [] ts ts'
     pub shows : seen (view d p c) ≡ after_turns (unserved (d.meaning s.below)) ts

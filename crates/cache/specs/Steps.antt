@@ -24,7 +24,7 @@ read_view v = record v { reads = raised v.reads }
 abbrev pub write_view : {State : Type 0} → View State → ℕ → List ℕ → View State
 write_view v p b = record v { store = stored v.store p b; writes = raised v.writes }
 
--- a place in use so
+-- a place written back, if it is in use
 abbrev pub vacated_view : {State : Type 0} → View State → ℕ → View State
 vacated_view v p = cond (nat_lt p (used v.store)) (backed_view v p) v
 
@@ -41,7 +41,7 @@ module _ {Setting State : Type 0} (r : Rules Setting State) where
   abbrev pub next_place : View State → ℕ
   next_place v = v.store.pinned + r.place v.policy
 
-  -- the policy has placed, and a sector stands with its bytes in the place p
+  -- the policy has placed, a sector stands with its bytes in the place p, and F is raised
   abbrev pub placed_view : View State → ℕ → ℕ → List ℕ → View State
   placed_view v p x b = record v { policy = r.placed v.policy; store = installed v.store p x b; fetched = raised v.fetched }
 

@@ -1,6 +1,10 @@
 // The cache as a disk, over any disk.
+ghost use Rattle.std.specs.Prelude.{◌≡◌, length};
+ghost use Rattle.disk.specs.declared.turn.Request.TheVariants.{Read, Write};
+ghost use Rattle.disk.specs.Meaning.{answer, after_read, buffer_read, after_write};
 ghost use Rattle.cache.specs.View.{seen};
-ghost use Rattle.cache.specs.Reading.{view, Safe};
+ghost use Rattle.cache.specs.Requests.{Turned};
+ghost use Rattle.cache.specs.Reading.{view, Safe, Takes};
 
 use crate::cache::Cache;
 use base::Refusal;
@@ -20,11 +24,28 @@ impl<D: Disk, P: Policy> Disk for Cache<D, P> {
         self.tallies.snapshot()
     }
 
-    fn read(&mut self, sector: u32, buffer: &mut [u8]) -> Result<(), Refusal> {
+    fn read(&mut self, sector: u32, buffer: &mut [u8]) -> Result<(), Refusal>
+        requires { Safe D.Disk P.Policy self.old }
+        ensures kept { Safe D.Disk P.Policy self.new }
+        ensures answers { result ≡ answer (seen (view D.Disk P.Policy self.old)) sector (length buffer.old) }
+        ensures after { seen (view D.Disk P.Policy self.new) ≡ after_read (seen (view D.Disk P.Policy self.old)) sector buffer.old }
+        ensures fills { buffer.new ≡ buffer_read (seen (view D.Disk P.Policy self.old)) sector buffer.old }
+        ensures turned { Turned P.Policy.rules Read (view D.Disk P.Policy self.old) sector (length buffer.old)
+            (view D.Disk P.Policy self.new) }
+        ensures takes { Takes D.Disk P.Policy self.old Read sector buffer.old buffer.new result self.new }
+    {
         self.read_sector(sector, buffer)
     }
 
-    fn write(&mut self, sector: u32, buffer: &[u8]) -> Result<(), Refusal> {
+    fn write(&mut self, sector: u32, buffer: &[u8]) -> Result<(), Refusal>
+        requires { Safe D.Disk P.Policy self.old }
+        ensures kept { Safe D.Disk P.Policy self.new }
+        ensures answers { result ≡ answer (seen (view D.Disk P.Policy self.old)) sector (length buffer.now) }
+        ensures after { seen (view D.Disk P.Policy self.new) ≡ after_write (seen (view D.Disk P.Policy self.old)) sector buffer.now }
+        ensures turned { Turned P.Policy.rules Write (view D.Disk P.Policy self.old) sector (length buffer.now)
+            (view D.Disk P.Policy self.new) }
+        ensures takes { Takes D.Disk P.Policy self.old Write sector buffer.now buffer.now result self.new }
+    {
         self.write_sector(sector, buffer)
     }
 }

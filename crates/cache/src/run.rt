@@ -2,7 +2,7 @@
 ghost use Rattle.std.specs.Prelude.{◌≡◌};
 ghost use Rattle.cache.specs.Reading.{Safe};
 ghost use Rattle.cache.specs.SetUp.{Ready, Begins};
-ghost use Rattle.cache.specs.Runs.{TakesTurn, Runs};
+ghost use Rattle.cache.specs.Runs.{TakesOne, Runs};
 
 use crate::cache::Cache;
 use crate::set_up::SetUpCache;
@@ -13,7 +13,7 @@ use policy::Policy;
 fn take_turn<D: Disk, P: Policy>(cache: &mut Cache<D, P>, turn: &mut Turn)
     requires { Safe D.Disk P.Policy cache.old }
     ensures kept { Safe D.Disk P.Policy cache.new }
-    ensures takes { TakesTurn D.Disk P.Policy cache.old turn.old turn.new cache.new }
+    ensures takes { TakesOne D.Disk P.Policy cache.old turn.old turn.new cache.new }
 {
     match turn.request {
         Request::Read => turn.answer = Some(cache.read_sector(turn.sector, &mut turn.buffer)),

@@ -13,18 +13,20 @@ returns-in-Read-clause-takes g c =
     let long : length ws ≡ vec_len t.buffer = search rules in
     record {
       event = record { request = Read; sector = t.sector; before = c.deref_mut.result.now; after = ws; answer = c.read_sector.result; cache = view g.D.Disk g.P.Policy q };
-      report = record {
-        task = refl;
-        request = refl;
-        sector = refl;
-        asked = sym c.in-Read.is;
-        of = refl;
-        before = c.deref_mut.ensures.value;
-        after = with_items_is t.buffer ws long;
-        answer = refl;
+      taken = record {
+        report = record {
+          task = refl;
+          request = refl;
+          sector = refl;
+          asked = sym c.in-Read.is;
+          of = refl;
+          before = c.deref_mut.ensures.value;
+          after = with_items_is t.buffer ws long;
+          answer = refl;
+        };
+        leaves = refl;
+        took = read_took g.P.Policy.rules _ _ _ _ _ _ c.read_sector.ensures.answers c.read_sector.ensures.turned c.read_sector.ensures.fills c.read_sector.ensures.after;
       };
-      leaves = refl;
-      took = read_took g.P.Policy.rules _ _ _ _ _ _ c.read_sector.ensures.answers c.read_sector.ensures.turned c.read_sector.ensures.fills c.read_sector.ensures.after;
     }
 
 pub returns-in-Write-clause-takes : goal.returns-in-Write-clause-takes
@@ -34,18 +36,20 @@ returns-in-Write-clause-takes g c =
     let bs = c.deref.result.now in
     record {
       event = record { request = Write; sector = t.sector; before = bs; after = bs; answer = c.write_sector.result; cache = view g.D.Disk g.P.Policy q };
-      report = record {
-        task = refl;
-        request = refl;
-        sector = refl;
-        asked = sym c.in-Write.is;
-        of = refl;
-        before = c.deref.ensures.value;
-        after = sym c.deref.ensures.value;
-        answer = refl;
+      taken = record {
+        report = record {
+          task = refl;
+          request = refl;
+          sector = refl;
+          asked = sym c.in-Write.is;
+          of = refl;
+          before = c.deref.ensures.value;
+          after = sym c.deref.ensures.value;
+          answer = refl;
+        };
+        leaves = refl;
+        took = write_took g.P.Policy.rules _ _ _ _ _ c.write_sector.ensures.answers c.write_sector.ensures.turned c.write_sector.ensures.after;
       };
-      leaves = refl;
-      took = write_took g.P.Policy.rules _ _ _ _ _ c.write_sector.ensures.answers c.write_sector.ensures.turned c.write_sector.ensures.after;
     }
 
 pub returns-in-Flush-clause-takes : goal.returns-in-Flush-clause-takes
@@ -55,7 +59,9 @@ returns-in-Flush-clause-takes g c =
     let bs = vec_items t.buffer in
     record {
       event = record { request = Flush; sector = t.sector; before = bs; after = bs; answer = Ok tt; cache = view g.D.Disk g.P.Policy q };
-      report = record { task = refl; request = refl; sector = refl; asked = sym c.in-Flush.is; of = refl; before = refl; after = refl; answer = refl };
-      leaves = refl;
-      took = flush_took g.P.Policy.rules _ _ t.sector bs c.flush.ensures.flushed;
+      taken = record {
+        report = record { task = refl; request = refl; sector = refl; asked = sym c.in-Flush.is; of = refl; before = refl; after = refl; answer = refl };
+        leaves = refl;
+        took = flush_took g.P.Policy.rules _ _ t.sector bs c.flush.ensures.flushed;
+      };
     }

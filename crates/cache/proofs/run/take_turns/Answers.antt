@@ -15,4 +15,4 @@ loop-turn-preserved g c =
 pub returns-clause-runs : goal.returns-clause-runs
 returns-clause-runs g c s begins =
     let all = taking_all g.D.Disk g.P.Policy _ _ _ _ _ c.loop-turn.invariant.1 (omega arith) in
-    ran g.D.Disk g.P.Policy g.met.P.Policy.conservative s _ _ _ _ begins all
+    ran g.D.Disk g.P.Policy g.met.P.Policy.conservative s _ _ _ _ _ begins all
