@@ -56,7 +56,7 @@ fn plan_asked<'a>(file: Option<&'a str>, frames: &str, smaller: &str) -> Asked<'
 pub fn asked_by(words: &[String]) -> Asked<'_> {
     match words {
         [] => Asked::Sheet { file: None },
-        [word] if word.as_str() == "--help" => Asked::Help,
+        [word, ..] if word.as_str() == "--help" => Asked::Help,
         [word, ..] if word.starts_with('-') => Asked::Misused(Misuse::NoSuchOption),
         [word] if number_in(word).is_some() => Asked::Misused(Misuse::Numbers),
         [file] => Asked::Sheet { file: Some(file) },

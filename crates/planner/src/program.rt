@@ -10,8 +10,9 @@ use trace::{Plain, ReplayFault};
 const USAGE: &str = "usage: tawqeru [FILE] [K H]
 Prints the sheet of the trace in FILE, or on standard input: the fetches of
 LRU, FIFO, CLOCK and MIN with 1, 2, 3, 4, 8 and 64 frames. With K and H it
-prints the plan for K frames by a schedule on H, with its ceiling, beside the
-fetches of each policy on K frames. A refused trace or plan gives the line
+prints the plan for K frames (1 to 64) by a schedule on H (1 to K): the fewest
+fetches on H frames, the ceiling that no policy exceeds on K, and the fetches
+of each policy on K. A refused trace or plan gives the line
 refused,NUMBER,LINE,FIELD, and the refusal in words on standard error.
 A number names no file: a file 4 is given as ./4.";
 

@@ -1,4 +1,4 @@
-// The program tawqeru once more: this run of it, in the gate, refuses a trace.
+// The program tawqeru once more: this run of it, in the gate, refuses a trace that is one byte too long.
 #![tactic(auto)]
 
 use std::io;

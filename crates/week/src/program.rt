@@ -10,7 +10,8 @@ use workspace::Workspace;
 
 const USAGE: &str = "usage: recipe_week [FILE]
 Takes the trace in FILE, or on standard input, through a recipe's week: the
-record, the sheet, the plan, the run of six tasks through the cache, the end.
+record, the sheet, the plan for 4 frames by a schedule on 2, the run of six
+tasks through a cache of 4 frames, and the end.
 A refused trace gives the line refused,NUMBER,LINE,FIELD, and the refusal in
 words on standard error.";
 
@@ -28,7 +29,6 @@ fn print_week(rt: &HostRuntime, text: &[u8]) -> anyhow::Result<Result<(), Replay
     let heap = rt.alloc();
     let mut keys = vec![in heap; VolumeKey::new(0, 0); MAX_TOUCHES]?;
     let mut workspace = Workspace::new(heap)?;
-    println!(rt; "Monday: a trace of {} bytes", text.len())?;
     let rows = match sheet_of_trace(text, &mut keys, &mut workspace.lists()) {
         Ok(rows) => rows,
         Err(fault) => return Ok(Err(fault)),
@@ -37,28 +37,33 @@ fn print_week(rt: &HostRuntime, text: &[u8]) -> anyhow::Result<Result<(), Replay
         Ok(touches) => touches,
         Err(fault) => return Ok(Err(fault)),
     };
+    println!(rt; "Monday: a trace of {} bytes", text.len())?;
     print_sheet(rt, &rows)?;
     Ok(run_week(rt, &keys[..touches])?.map_err(ReplayFault::from))
 }
 
-// The file's name, if there is one; nothing where the words are wrong.
-fn file_in(words: &[String]) -> Option<Option<&str>> {
+// The file's name, if there is one, or what is wrong with the words.
+fn file_in(words: &[String]) -> Result<Option<&str>, &'static str> {
     match words {
-        [] => Some(None),
-        [word] if !word.starts_with('-') => Some(Some(word)),
-        _ => None,
+        [] => Ok(None),
+        [word, ..] if word.starts_with('-') => Err("there is no such option"),
+        [file] => Ok(Some(file)),
+        _ => Err("there are more words than a file"),
     }
 }
 
 fn run(rt: &HostRuntime) -> anyhow::Result<ExitCode> {
     let words = words_of(rt)?;
-    if words.len() == 1 && words[0].as_str() == "--help" {
+    if words.first().is_some_and(|word| word.as_str() == "--help") {
         rt.println(USAGE)?;
         return Ok(ExitCode::SUCCESS);
     }
-    let Some(file) = file_in(&words) else {
-        eprintln!(rt; "recipe_week: there are more words than a file\n{USAGE}")?;
-        return Ok(ExitCode::FAILURE);
+    let file = match file_in(&words) {
+        Ok(file) => file,
+        Err(misuse) => {
+            eprintln!(rt; "recipe_week: {misuse}\n{USAGE}")?;
+            return Ok(ExitCode::FAILURE);
+        }
     };
     if let Err(fault) = print_week(rt, &read_text(rt, file)?)? {
         print_refused(rt, fault)?;
