@@ -1,3 +1,4 @@
 pub mod CircleQueues
 pub mod ClockSweeps
+pub mod LinkedLists
 pub mod Orders

@@ -5,6 +5,9 @@ pub mod Calls
 pub mod Order
 pub mod Queue
 pub mod Circle
+pub mod LinkedList
+pub mod Links
+pub mod FrameList
 pub mod Lru
 pub mod Fifo
 pub mod Clock

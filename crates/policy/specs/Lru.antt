@@ -1,6 +1,7 @@
 -- LRU: the frames in order of their latest place or use. Assumes nothing.
 use Rattle.policy.specs.Machine.{Rules}
 use Rattle.policy.specs.Queue.{Queue, to_back, queue_rules}
+use Rattle.policy.specs.FrameList.{frames_in}
 use Rattle.policy.specs.declared.lru.Lru.{Lru}
 
 -- a use moves its frame to the end
@@ -9,4 +10,4 @@ lru_rules = queue_rules to_back
 
 -- the queue that the code keeps
 abbrev pub lru_queue : Lru → Queue
-lru_queue l = record { size = l.size; order = l.order.items }
+lru_queue l = record { size = l.size; order = frames_in l.order }

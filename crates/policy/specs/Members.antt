@@ -2,7 +2,7 @@
 use Rattle.std.specs.Prelude.{◌≡◌, ℕ, zero, suc, ◌+◌, ◌<◌, ◌≤◌, true, false, cond, ◌||◌, ◌==◌, ◌≢◌, refl}
 use Rattle.std.specs.Prelude.{List, [], ◌∷◌, ◌++◌, length, slice_index, slice_set}
 use Rattle.std.proofs.Common.{sym, ap, inl, inr, ⊎_elim, arith}
-use Rattle.std.specs.List.{AllByRecursion, remove}
+use Rattle.std.specs.List.{AllByRecursion}
 use Rattle.std.proofs.lemmas.Bool.Decides.{nat_tests}
 use Rattle.std.proofs.lemmas.Bool.{cases_Bool, or_cases, or_left, or_right, or_from, eq-eqb, eqb-true, ne_eqb}
 use Rattle.std.proofs.ByRecursion.{All-weaker}
@@ -158,18 +158,3 @@ pub member_index : (xs : List ℕ) (i : ℕ) → i < length xs → member (slice
 member_index [] i l = absurd (omega arith)
 member_index (x ∷ xs) zero l = or_left (x == x) _ (eq-eqb x x refl)
 member_index (x ∷ xs) (suc i) l = or_right (slice_index xs i == x) _ (member_index xs i (omega arith))
-
--- in a list of different keys, what stands at a place stands nowhere before it
-pub remove_without : (xs : List ℕ) (i : ℕ) → Apart xs → i < length xs → remove xs i ≡ without (slice_index xs i) xs
-remove_without [] i h l = absurd (omega arith)
-remove_without (x ∷ xs) zero h l = rw (eq-eqb x x refl)
-remove_without (x ∷ xs) (suc i) h l =
-    let y : ℕ = slice_index xs i in
-    elim (cases_Bool (y == x)) [
-      | inl same ↦
-          let e = eqb-true y x same in
-          let there = member_index xs i (omega arith) in
-          let gone = h.0 in
-          absurd (grind arith)
-      | inr other ↦ rw other (ap (λ ys. x ∷ ys) (remove_without xs i h.1 (omega arith)))
-    ]

@@ -6,8 +6,8 @@ ghost use Rattle.policy.specs.Queues.{back_ordered};
 ghost use Rattle.policy.specs.Shapes.{ordered_shape};
 
 use super::Lru;
+use super::list::FrameList;
 use crate::policy::Policy;
-use arrayvec::ArrayVec;
 use base::{Geometry, Refusal};
 
 impl Policy for Lru {
@@ -26,7 +26,7 @@ impl Policy for Lru {
     fn new(_setting: (), geometry: &Geometry) -> Lru {
         Lru {
             size: geometry.frames(),
-            order: ArrayVec::new(),
+            order: FrameList::new(),
         }
     }
 
@@ -39,8 +39,10 @@ impl Policy for Lru {
     }
 
     fn use_frame(&mut self, frame: usize) -> Result<(), Refusal> {
-        let at = self.position_of(frame).ok_or(Refusal::FrameNotFilled)?;
-        self.move_to_back(at);
+        if frame >= self.order.len() {
+            return Err(Refusal::FrameNotFilled);
+        }
+        self.move_to_back(frame);
         Ok(())
     }
 }

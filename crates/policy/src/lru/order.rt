@@ -1,6 +1,5 @@
 // How LRU's order changes.
-ghost use Rattle.std.specs.Prelude.{◌≡◌, ◌<◌, ◌≤◌, ◌↔◌, IsSome, IfSome, slice_index};
-ghost use Rattle.arrayvec.specs.ArrayVec.{array_vec_len};
+ghost use Rattle.std.specs.Prelude.{◌≡◌, ◌<◌, ◌≤◌, length};
 ghost use Rattle.policy.specs.Queue.{to_back, queue_place};
 ghost use Rattle.policy.specs.Lru.{lru_queue};
 
@@ -9,41 +8,33 @@ use super::Lru;
 impl Lru {
     // Puts the next frame at the end of the order.
     pub(super) fn fill_next(&mut self) -> usize
-        requires { array_vec_len self.old.order < self.old.size }
+        requires { length (lru_queue self.old).order < self.old.size }
         ensures value { result ≡ queue_place (lru_queue self.old) }
         ensures after { lru_queue self.new ≡ to_back (lru_queue self.old) result }
     {
         let frame = self.order.len();
-        self.order.push(frame as u8);
+        self.order.push(frame);
         frame
     }
 
     // Moves the first of a full order to its end.
+    #[tactic(auto, using(crate::proofs::Orders::first_below))]
     pub(super) fn take_earliest(&mut self) -> usize
-        requires { self.old.size ≤ array_vec_len self.old.order }
+        requires { self.old.size ≤ length (lru_queue self.old).order }
         ensures value { result ≡ queue_place (lru_queue self.old) }
         ensures after { lru_queue self.new ≡ to_back (lru_queue self.old) result }
     {
-        self.move_to_back(0)
+        let frame = self.order.first();
+        self.move_to_back(frame);
+        frame
     }
 
-    // Where a frame stands in the order, if it is filled. The search starts at the end, so that a frame used a short
-    // time ago is found in few steps.
-    pub(super) fn position_of(&self, frame: usize) -> Option<usize>
-        ensures filled { IsSome result ↔ (frame < array_vec_len self.now.order) }
-        ensures found { IfSome result (λ at. (at < array_vec_len self.now.order) × (slice_index self.now.order.items at ≡ frame)) }
+    // Moves a filled frame to the end of the order.
+    pub(super) fn move_to_back(&mut self, frame: usize)
+        requires { frame < length (lru_queue self.old).order }
+        ensures { lru_queue self.new ≡ to_back (lru_queue self.old) frame }
     {
-        self.order.iter().rposition(|&held| held as usize == frame)
-    }
-
-    // Moves the frame at a position of the order to its end.
-    pub(super) fn move_to_back(&mut self, at: usize) -> usize
-        requires { at < array_vec_len self.old.order }
-        ensures value { result ≡ slice_index self.old.order.items at }
-        ensures after { lru_queue self.new ≡ to_back (lru_queue self.old) result }
-    {
-        let frame = self.order.remove(at);
+        self.order.remove(frame);
         self.order.push(frame);
-        frame as usize
     }
 }
