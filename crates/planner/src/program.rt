@@ -8,12 +8,14 @@ use std::{env, io};
 use trace::{Plain, ReplayFault};
 
 const USAGE: &str = "usage: tawqeru [FILE] [K H]
+       tawqeru --help
 Prints the sheet of the trace in FILE, or on standard input: the fetches of
 LRU, FIFO, CLOCK and MIN with 1, 2, 3, 4, 8 and 64 frames. With K and H it
 prints the plan for K frames (1 to 64) by a schedule on H (1 to K): the fewest
-fetches on H frames, the ceiling that no policy exceeds on K, and the fetches
-of each policy on K. A refused trace or plan gives the line
-refused,NUMBER,LINE,FIELD, and the refusal in words on standard error.
+fetches on H frames, the ceiling that none of the three exceeds on K, and the
+fetches of each on K. A refused trace or plan gives the line
+refused,NUMBER,LINE,FIELD, with status 0, and the refusal in words on standard
+error. Wrong words end with status 1.
 A number names no file: a file 4 is given as ./4.";
 
 // A refusal's line, and beside it, on standard error, the refusal in plain words.

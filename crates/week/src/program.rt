@@ -9,11 +9,12 @@ use trace::{ReplayFault, read_trace};
 use workspace::Workspace;
 
 const USAGE: &str = "usage: recipe_week [FILE]
+       recipe_week --help
 Takes the trace in FILE, or on standard input, through a recipe's week: the
 record, the sheet, the plan for 4 frames by a schedule on 2, the run of six
-tasks through a cache of 4 frames, and the end.
-A refused trace gives the line refused,NUMBER,LINE,FIELD, and the refusal in
-words on standard error.";
+tasks through a cache of 4 frames by LRU, and the end.
+A refused trace gives the line refused,NUMBER,LINE,FIELD, with status 0, and
+the refusal in words on standard error. Wrong words end with status 1.";
 
 fn print_sheet(rt: &HostRuntime, rows: &[Row; 6]) -> io::Result<()> {
     println!(rt; "Tuesday: the sheet")?;
