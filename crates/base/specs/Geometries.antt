@@ -17,8 +17,8 @@ pub record Bounded (g : Geometry) : Type 0 where
   pub few : pins_of g ≤ 8
 
 -- how the numbers are judged: the frames first
-abbrev pub judged : ℕ → ℕ → Result (ℕ × ℕ) Refusal
-judged frames pins =
+abbrev pub judged_numbers : ℕ → ℕ → Result (ℕ × ℕ) Refusal
+judged_numbers frames pins =
     cond (nat_le 1 frames && nat_le frames 64) (cond (nat_le pins 8) (Ok (frames, pins)) (Err PinPlaceCount)) (Err FrameCount)
 
 -- a geometry by its two numbers
@@ -28,4 +28,4 @@ read_off (Err e) = Err e
 
 -- what making a geometry answers
 abbrev pub built : ℕ → ℕ → Result Geometry Refusal → Type 0
-built frames pins r = read_off r ≡ judged frames pins
+built frames pins r = read_off r ≡ judged_numbers frames pins

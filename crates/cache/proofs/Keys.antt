@@ -4,8 +4,7 @@ use Rattle.std.proofs.lemmas.Bool.{cases_Bool, cases_eq, cases_lt, eq-eqb, ne_eq
 use Rattle.std.proofs.lemmas.List.{length-map, length-drop, drop-set-add, drop-append-le, take-set-le, take-append-le}
 use Rattle.std.specs.List.{position, position_or_len}
 use Rattle.policy.specs.Machine.{put}
-use Rattle.base.specs.Lists.{member, place_in}
-use Rattle.cache.specs.Places.{found}
+use Rattle.base.specs.Lists.{member, place_in, found_in}
 
 -- a list cut in two: in which part a key stands, and where
 pub member_cut : (x n : ℕ) (xs : List ℕ) → member x xs ≡ (member x (take n xs) || member x (drop n xs))
@@ -41,7 +40,7 @@ put_front n f x xs h = elim (cases_lt (n + f) (length xs)) [
 ]
 
 -- a key that is not found
-pub found_none : (keys : List ℕ) (x : ℕ) → is_some (found keys x) ≡ false → member x keys ≡ false
+pub found_none : (keys : List ℕ) (x : ℕ) → is_some (found_in x keys) ≡ false → member x keys ≡ false
 found_none keys x h = elim (cases_Bool (member x keys)) [ inl e ↦ absurd (true≢false (rw e at h)) | inr e ↦ e ]
 
 -- a key stands in a list where its place is one of the list's
@@ -64,5 +63,5 @@ module _ {X : Type 0} (key : X → ℕ) (x : ℕ) where
     | inr n ↦ rw (ne_eqb (key e) x (λ k. n (sym k)), ne_eqb x (key e) n, first_place es) (omega arith)
   ]
 
-  pub position_found : (es : List X) → position (λ e. nat_eq (key e) x) es ≡ found (map key es) x
+  pub position_found : (es : List X) → position (λ e. nat_eq (key e) x) es ≡ found_in x (map key es)
   position_found es = rw (first_place es, member_place x (map key es), length-map es key)

@@ -20,7 +20,7 @@ use Rattle.cache.specs.Steps.{next_place}
 use Rattle.cache.specs.Requests.{Turned, misses, fetched_below}
 use Rattle.cache.specs.Flush.{Flushed}
 use Rattle.cache.specs.Events.{Event, Each, Took, AsAlone, Serves, Served, nothing, reads, reads_writes, accesses, bytes_after, alone_after, latest_write, read_accepted, write_accepted, touch_of, touches_of, cache_after}
-use Rattle.cache.specs.Promise.{Origin, Begun, Taken, Counted, alone, touches, machine_fetches}
+use Rattle.cache.specs.Promise.{Origin, Begun, Taken, FetchesCounted, alone, touches, machine_fetches}
 
 module _ {State : Type 0} where
   -- lists of turns with one more at the end
@@ -163,7 +163,7 @@ module _ {Setting State : Type 0} (r : Rules Setting State) where
       pub frames : machine v ≡ touched r (start r o.setting o.frames) (touches o es)
       pub counts : v.fetched ≡ min (machine_fetches r o es) largest_tally
       pub reads : v.below.reads ≡ min ((alone o).reads + machine_fetches r o es) largest_tally
-      pub turnwise : Each (Counted r o) [] es
+      pub turnwise : Each (FetchesCounted r o) [] es
       pub answers : Each (AsAlone (alone o)) [] es
       pub asks : Each (λ past e. Serves (cache_after o.cache past) e) [] es
 
@@ -197,7 +197,7 @@ module _ {Setting State : Type 0} (r : Rules Setting State) where
           frames = rw more (frames_more n₀ (machine v) (touches o es) b x f.frames (machine e.cache) c.frames);
           counts = counts;
           reads = rw more (count_more n₀ (machine v) (touches o es) b x f.frames m.reads v.below.reads e.cache.below.reads f.reads c.reads);
-          turnwise = each_push (Counted r o) [] es e f.turnwise counts;
+          turnwise = each_push (FetchesCounted r o) [] es e f.turnwise counts;
           answers = each_push (AsAlone m) [] es e f.answers (as_alone m es v e f.shows k.answers k.fills (λ q. (k.flushed q).bytes));
           asks = each_push (λ past d. Serves (cache_after o.cache past) d) [] es e f.asks (rw is at (serves_of v e k));
         }

@@ -2,13 +2,13 @@
 use Rattle.std.proofs.Common.{◌≡◌, ℕ, ◌+◌, ◌-◌, ◌<◌, ◌≤◌, Bool, true, false, cond, not, ◌&&◌, ◌||◌, eqb, ltb, List, length, is_ok, Some, Ok, Result, sym, refl, ap, ◌∙◌, subst, inl, inr, arith}
 use Rattle.std.proofs.lemmas.Bool.{cases_Bool, cases_lt, lt-ltb, le-ltb, ltb-true, ltb-false, or_parts, true≢false}
 use Rattle.std.proofs.lemmas.Option.{cond_some}
-use Rattle.base.specs.Lists.{member, place_in}
+use Rattle.base.specs.Lists.{member, place_in, found_in}
 use Rattle.base.specs.declared.refusal.Refusal.{Refusal}
 use Rattle.policy.specs.Machine.{Rules, put, touch, fetch}
 use Rattle.policy.specs.Shape.{placed, used, Shape}
 use Rattle.disk.specs.Meaning.{Meaning, Sized, answer, serves, raised, written_one}
 use Rattle.disk.proofs.Served.{live_served, answer_live}
-use Rattle.cache.specs.Places.{used as in_use, place_at, held, pins, framed, found, installed, is_dirty}
+use Rattle.cache.specs.Places.{used as in_use, place_at, held, pins, framed, installed, is_dirty}
 use Rattle.cache.specs.View.{View, Sound, seen, machine}
 use Rattle.cache.specs.Steps.{used_frame, used_view, placed_view, looked_view, vacated_view, fetched_view, touched_view, next_place, place_of, with_place}
 use Rattle.cache.specs.Requests.{fetched_below, puts_out}
@@ -312,7 +312,7 @@ module _ {Setting State : Type 0} (r : Rules Setting State) (shape : Shape r) wh
     ]
 
     -- a sector that is found: its frame is filled, and the answer
-    module _ (p : ℕ) (at : Some p ≡ found (held v.store) x) where
+    module _ (p : ℕ) (at : Some p ≡ found_in x (held v.store)) where
       pub hit_filled : v.store.pinned ≤ p → p - v.store.pinned < r.filled v.policy
       hit_filled low =
           let q = cond_some _ _ _ (sym at) in

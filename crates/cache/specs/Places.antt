@@ -1,8 +1,8 @@
 -- The places of a store, and what is done to them. Assumes nothing.
 use Rattle.std.specs.Prelude.{◌≡◌, ℕ, ◌+◌, ◌<◌, Bool, true, false, cond, List, [], ◌∷◌, ◌++◌, map, filter, length, take, drop}
-use Rattle.std.specs.Prelude.{Some, None, Option, nat_lt, slice_index_or, slice_set}
+use Rattle.std.specs.Prelude.{nat_lt, slice_index_or, slice_set}
 use Rattle.arrayvec.specs.ArrayVec.{array_vec_len, with_item}
-use Rattle.base.specs.Lists.{member, place_in}
+use Rattle.base.specs.Lists.{member}
 use Rattle.cache.specs.declared.store.Place.{Place}
 use Rattle.cache.specs.declared.store.Store.{Store}
 
@@ -38,10 +38,6 @@ is_dirty s x = member x (dirty s)
 -- no two places hold one sector, so that no pinned sector is in a frame
 abbrev pub HeldOnce : Store → Type 0
 HeldOnce s = (i j : ℕ) → i < used s → j < used s → (place_at s i).sector ≡ (place_at s j).sector → i ≡ j
-
--- where a sector stands in a list
-abbrev pub found : List ℕ → ℕ → Option ℕ
-found sectors x = cond (member x sectors) (Some (place_in x sectors)) None
 
 -- a store with one place in use changed
 abbrev pub changed : Store → ℕ → Place → Store

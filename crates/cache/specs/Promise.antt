@@ -59,8 +59,8 @@ module _ {Setting State : Type 0} (r : Rules Setting State) (o : Origin Setting 
   machine_fetches es = fetches r (start r o.setting o.frames) (touches o es)
 
   -- F after a turn is the frame machine's count on the touches up to that turn, cut at the largest value
-  abbrev pub Counted : List (Event State) → Event State → Type 0
-  Counted past e = e.cache.fetched ≡ min (machine_fetches (past ++ (e ∷ []))) largest_tally
+  abbrev pub FetchesCounted : List (Event State) → Event State → Type 0
+  FetchesCounted past e = e.cache.fetched ≡ min (machine_fetches (past ++ (e ∷ []))) largest_tally
 
   -- The promise of a cache of k frames that has taken some turns and then is v, with F its fetches.
   pub record Promise (es : List (Event State)) (v : View State) : Type 0 where
@@ -70,7 +70,7 @@ module _ {Setting State : Type 0} (r : Rules Setting State) (o : Origin Setting 
     pub shows : seen v ≡ alone_after (alone o) es
     -- F is the frame machine's fetches on the touches, cut at the largest value, and so it was after each turn
     pub counts : v.fetched ≡ min (machine_fetches es) largest_tally
-    pub turnwise : Each Counted [] es
+    pub turnwise : Each FetchesCounted [] es
     -- the reads that the disk below has served since the start are these fetches
     pub reads : v.below.reads ≡ min ((alone o).reads + machine_fetches es) largest_tally
     -- what the disk below serves in each turn

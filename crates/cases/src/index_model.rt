@@ -1,5 +1,5 @@
 // The index compared with a plain list, over many calls in a haphazard order.
-ghost use Rattle.index.specs.Slots.{Sound};
+ghost use Rattle.index.specs.Slots.{SoundIndex};
 
 use crate::helpers::{check, check_eq};
 use base::{Key, Refusal, Sector, VolumeKey};
@@ -42,8 +42,8 @@ fn change<K: Key>(
     stored: Option<u32>,
     has_room: bool,
 ) -> Result<Result<(), Refusal>, Fail>
-    requires { Sound K.Key.code K.Key.spread index.old }
-    ensures { Sound K.Key.code K.Key.spread index.new }
+    requires { SoundIndex K.Key.code K.Key.spread index.old }
+    ensures { SoundIndex K.Key.code K.Key.spread index.new }
 {
     let Some(number) = stored else {
         check_eq(index.remove(&key), held.take())?;
@@ -66,8 +66,8 @@ fn compare<K: Key>(
     random: u64,
     number: u32,
 ) -> Result<Result<(), Refusal>, Fail>
-    requires { Sound K.Key.code K.Key.spread index.old }
-    ensures { Sound K.Key.code K.Key.spread index.new }
+    requires { SoundIndex K.Key.code K.Key.spread index.old }
+    ensures { SoundIndex K.Key.code K.Key.spread index.new }
 {
     let has_room = count(model) < SLOTS;
     let place = (random >> 33) as usize % KEYS;

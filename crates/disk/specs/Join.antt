@@ -31,8 +31,8 @@ module _ {A B : Type 0} (a : disks.Ghosts A) (b : disks.Ghosts B) where
   joined d = join_of (a.meaning d.first) (b.meaning d.second) d.tallies.reads d.tallies.writes
 
   -- what its two disks mean
-  abbrev pub parts : JoinedDisk A B → Meaning × Meaning
-  parts d = (a.meaning d.first, b.meaning d.second)
+  abbrev pub both : JoinedDisk A B → Meaning × Meaning
+  both d = (a.meaning d.first, b.meaning d.second)
 
   -- a joined disk is sound where both its disks are
   pub record BothSound (d : JoinedDisk A B) : Type 0 where

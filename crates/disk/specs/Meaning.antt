@@ -33,8 +33,8 @@ answer m sector len =
     cond (len == 512) (cond (nat_lt sector m.count) (cond (m.dead sector) (Err DeadSector) (Ok tt)) (Err NoSuchSector)) (Err BufferLength)
 
 -- what a disk of so many sectors says of a call before it looks at the sector
-abbrev pub judged : ℕ → ℕ → ℕ → Result (Unit {0}) Refusal
-judged count sector len = cond (len == 512) (cond (nat_lt sector count) (Ok tt) (Err NoSuchSector)) (Err BufferLength)
+abbrev pub judged_call : ℕ → ℕ → ℕ → Result (Unit {0}) Refusal
+judged_call count sector len = cond (len == 512) (cond (nat_lt sector count) (Ok tt) (Err NoSuchSector)) (Err BufferLength)
 
 -- whether such a call is served
 abbrev pub serves : Meaning → ℕ → ℕ → Bool

@@ -1,6 +1,6 @@
 // A disk: what its calls do is said once, by its meaning, and each kind of disk is proved to do it.
 ghost use Rattle.std.specs.Prelude.{◌≡◌, length};
-ghost use Rattle.disk.specs.Meaning.{Meaning, Sized, Tallied, answer, judged, after_read, buffer_read, after_write};
+ghost use Rattle.disk.specs.Meaning.{Meaning, Sized, Tallied, answer, judged_call, after_read, buffer_read, after_write};
 
 use crate::tallies::Tallies;
 use base::{Refusal, SECTOR_BYTES};
@@ -38,7 +38,7 @@ pub trait Disk {
 
 // What a disk of so many sectors refuses before it looks at the sector.
 pub(crate) fn judge(count: u32, sector: u32, len: usize) -> Result<(), Refusal>
-    ensures { result ≡ judged count sector len }
+    ensures { result ≡ judged_call count sector len }
 {
     if len != SECTOR_BYTES {
         return Err(Refusal::BufferLength);

@@ -5,7 +5,7 @@ use Rattle.std.proofs.lemmas.Bool.Decides.{nat_tests}
 use Rattle.index.specs.declared.slot.Entry.{Entry}
 use Rattle.index.specs.declared.index.Index.{Index}
 use Rattle.index.specs.Maps.{Finite}
-use Rattle.index.specs.Slots.{holds, number_of, slots_of, map_of, Sound}
+use Rattle.index.specs.Slots.{holds, number_of, slots_of, map_of, SoundIndex}
 use Rattle.index.proofs.Counts.{count_by-cons, number_only}
 
 module _ {K : Type 0} (code : K → ℕ) where
@@ -30,7 +30,7 @@ module _ {K : Type 0} (code : K → ℕ) where
   codes_once : (c : ℕ) (xs : List (Option (Entry K))) → count_by (holds code c) xs ≤ 1 → count_by (eqb c) (codes xs) ≡ cond (is_some (number_of code xs c)) 1 0
   codes_once c xs h = rw (codes_count c xs, number_only code c xs h) (grind (arith, nat_tests))
 
-  pub finite_from_sound : (spread : K → ℕ) (index : Index K) → Sound code spread index → Finite (map_of code index)
+  pub finite_from_sound : (spread : K → ℕ) (index : Index K) → SoundIndex code spread index → Finite (map_of code index)
   finite_from_sound spread index s = record {
     codes = codes (slots_of index);
     once = λ c. codes_once c (slots_of index) (s.different c);

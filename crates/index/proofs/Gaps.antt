@@ -7,7 +7,7 @@ use Rattle.std.specs.List.{SwappedAt}
 use Rattle.index.specs.declared.slot.Entry.{Entry}
 use Rattle.base.specs.Rings.{onward}
 use Rattle.index.specs.Places.{steps}
-use Rattle.index.specs.Slots.{Reached}
+use Rattle.index.specs.Slots.{AllReached}
 use Rattle.index.proofs.Places.{steps_none, steps_same, steps_below, steps_onward, steps_round, steps_before, onward_below}
 use Rattle.index.proofs.Changes.{within_from_taken}
 
@@ -27,7 +27,7 @@ module _ {K : Type 0} (spread : K → ℕ) (n : ℕ) where
     pub clear : (q : ℕ) (x : Entry K) → get_or xs q None ≡ Some x → steps n hole q ≤ steps n hole last → Ahead x.key hole q → ⊥
 
   -- the slots with one freed that were in order before
-  pub gap_none : (xs : List (Option (Entry K))) (place : ℕ) → length xs ≡ n → place < n → Reached spread xs → Gap (set xs place None) place place
+  pub gap_none : (xs : List (Option (Entry K))) (place : ℕ) → length xs ≡ n → place < n → AllReached spread xs → Gap (set xs place None) place place
   gap_none xs place long inside reached =
       let fits : place < length xs = rw long inside in
       let free = get_or-set_same xs place None None fits in
@@ -51,14 +51,14 @@ module _ {K : Type 0} (spread : K → ℕ) (n : ℕ) where
     below : (q : ℕ) (x : Entry K) → get_or xs q None ≡ Some x → q < n
     below q x e = rw (sym gap.long) (within_from_taken xs q x e)
 
-    closed : ((q : ℕ) (x : Entry K) → get_or xs q None ≡ Some x → Ahead x.key hole q → ⊥) → Reached spread xs
+    closed : ((q : ℕ) (x : Entry K) → get_or xs q None ≡ Some x → Ahead x.key hole q → ⊥) → AllReached spread xs
     closed none = rw gap.long (λ q x e p l b. elim (cases_eq p hole) [
       | inl same ↦ absurd (none q x e (rw same at b))
       | inr other ↦ gap.across q x e p l other b
     ])
 
     -- the whole round has been looked at
-    pub closed_round : onward n last ≡ hole → Reached spread xs
+    pub closed_round : onward n last ≡ hole → AllReached spread xs
     closed_round e = closed (λ q x held b.
         let r = steps_round n hole last gap.inside gap.looked e in
         let s = steps_below n hole q gap.inside (below q x held) in
@@ -72,7 +72,7 @@ module _ {K : Type 0} (spread : K → ℕ) (n : ℕ) where
       step = rw is (steps_onward n hole last gap.inside gap.looked (λ e. other (is ∙ e)))
 
       -- no way leads across a free slot
-      pub closed_free : get_or xs next None ≡ None → Reached spread xs
+      pub closed_free : get_or xs next None ≡ None → AllReached spread xs
       closed_free free = closed (λ q x held b.
           let in-q = below q x held in
           let home = spread x.key % n in

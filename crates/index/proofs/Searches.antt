@@ -4,7 +4,7 @@ use Rattle.std.proofs.lemmas.Bool.{both_ways, cases_order, ne_eqb, false≢true}
 use Rattle.std.proofs.lemmas.Bool.Decides.{nat_tests}
 use Rattle.index.specs.declared.slot.Entry.{Entry}
 use Rattle.index.specs.Places.{steps}
-use Rattle.index.specs.Slots.{holds, home, Reached}
+use Rattle.index.specs.Slots.{holds, home, AllReached}
 use Rattle.index.specs.Probes.{Absent, Open, Stops, passes}
 use Rattle.index.proofs.Counts.{count_by-cons}
 use Rattle.index.proofs.Places.{steps_same}
@@ -46,7 +46,7 @@ module _ {K : Type 0} (code spread : K → ℕ) (xs : List (Option (Entry K))) (
   other_slot (Some x) h = ne_eqb (code key) (code x.key) (λ e. h x refl (sym e))
 
   -- behind a free slot the key is not reached, so it is nowhere
-  pub open_from_stops : ((a b : K) → code a ≡ code b → a ≡ b) → Reached spread xs → (place : ℕ) → Stops code spread xs key (Some place) → get_or xs place None ≡ None → Open code spread xs key place
+  pub open_from_stops : ((a b : K) → code a ≡ code b → a ≡ b) → AllReached spread xs → (place : ℕ) → Stops code spread xs key (Some place) → get_or xs place None ≡ None → Open code spread xs key place
   open_from_stops faithful reached place (within, stops, passed) free =
       let below : home spread xs key < length xs = omega (arith, within) in
       record {

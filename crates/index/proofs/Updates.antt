@@ -13,7 +13,7 @@ use Rattle.index.specs.declared.index.probing.Probe.{Probe}
 use Rattle.index.specs.declared.index.probing.Probe.TheVariants.{Found, Vacant, Full}
 use Rattle.index.specs.Maps.{Map, empty, after_put, after_remove}
 use Rattle.index.specs.declared.index.Index.{Index}
-use Rattle.index.specs.Slots.{holds, number_of, slots_of, slots_map, Before, Reached, Sound}
+use Rattle.index.specs.Slots.{holds, number_of, slots_of, slots_map, Before, AllReached, SoundIndex}
 use Rattle.index.specs.Probes.{Absent, Open, Probed, Tells, Vacated}
 use Rattle.index.proofs.Counts.{number_only}
 use Rattle.index.proofs.Changes.{within_from_taken, freed_size, freed_different, freed_present, freed_at, renumbered, renumbered_size, renumbered_at, filled_size, filled_different, filled_at}
@@ -28,7 +28,7 @@ module _ {K : Type 0} (code : K → ℕ) (n : ℕ) where
   free_count : (t : Option (Entry K) → Bool) → t None ≡ false → count_by t (replicate n None) ≡ 0
   free_count t off = rw (sum_by-replicate (λ s. cond (t s) 1 0) n None, off) (omega arith)
 
-  pub free_sound : (spread : K → ℕ) (index : Index K) → slots_of index ≡ replicate n None → index.taken ≡ 0 → Sound code spread index
+  pub free_sound : (spread : K → ℕ) (index : Index K) → slots_of index ≡ replicate n None → index.taken ≡ 0 → SoundIndex code spread index
   free_sound spread index free none = record {
     counted = rw (free, none) (sym (free_count is_some refl));
     different = λ c. rw (free, free_count (holds code c) refl) (omega arith);
@@ -49,8 +49,8 @@ module _ {K : Type 0} (code spread : K → ℕ) (xs : List (Option (Entry K))) w
   absent_none k h = rw (number_only code (code k) xs (omega arith), h)
 
   -- a key that is put where each slot on its way is taken is reached, and so are the others
-  pub reached_set : (p : ℕ) (x : Entry K) → p < length xs → Reached spread xs →
-      ((q : ℕ) → q < length xs → Before spread xs x.key q p → is_some (get_or xs q None) ≡ true) → Reached spread (set xs p (Some x))
+  pub reached_set : (p : ℕ) (x : Entry K) → p < length xs → AllReached spread xs →
+      ((q : ℕ) → q < length xs → Before spread xs x.key q p → is_some (get_or xs q None) ≡ true) → AllReached spread (set xs p (Some x))
   reached_set p x inside reached way =
       let ys = set xs p (Some x) in
       let here : get_or ys p None ≡ Some x = get_or-set_same xs p (Some x) None inside in

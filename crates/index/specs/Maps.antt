@@ -35,12 +35,12 @@ abbrev pub put_answer : Map → ℕ → Result (Unit {0}) Refusal
 put_answer m code = cond (accepts m code) (Ok tt) (Err IndexFull)
 
 -- the map with a number stored with a code
-abbrev pub stored : Map → ℕ → ℕ → Map
-stored m code number = record m { at = update nat_eq m.at code (Some number); size = cond (has m code) m.size (m.size + 1) }
+abbrev pub with_number : Map → ℕ → ℕ → Map
+with_number m code number = record m { at = update nat_eq m.at code (Some number); size = cond (has m code) m.size (m.size + 1) }
 
 -- the map after a put, which is as before where the put is refused
 abbrev pub after_put : Map → ℕ → ℕ → Map
-after_put m code number = cond (accepts m code) (stored m code number) m
+after_put m code number = cond (accepts m code) (with_number m code number) m
 
 -- the map after a remove
 abbrev pub after_remove : Map → ℕ → Map

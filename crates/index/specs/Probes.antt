@@ -5,7 +5,7 @@ use Rattle.index.specs.declared.slot.Entry.{Entry}
 use Rattle.index.specs.declared.index.probing.Probe.{Probe}
 use Rattle.index.specs.declared.index.probing.Probe.TheVariants.{Found, Vacant, Full}
 use Rattle.index.specs.Maps.{Map, after_remove}
-use Rattle.index.specs.Slots.{holds, Before, Reached}
+use Rattle.index.specs.Slots.{holds, Before, AllReached}
 
 -- no slot holds the key
 abbrev pub Absent : {K : Type 0} → (K → ℕ) → List (Option (Entry K)) → K → Type 0
@@ -50,7 +50,7 @@ pub record Vacated {K : Type 0} (spread : K → ℕ) (slots : List (Option (Entr
     (after : List (Option (Entry K))) : Type 0 where
   pub long : length after ≡ length slots
   pub same : (f : Option (Entry K) → ℕ) → sum_by f after ≡ sum_by f (slice_set slots place None)
-  pub reached : Reached spread after
+  pub reached : AllReached spread after
 
 -- what looking for a key tells of the map that the slots hold: the key's number, or that it has none, and whether a slot is left
 abbrev pub Tells : Map → ℕ → Probe → Type 0

@@ -39,15 +39,15 @@ Before spread slots key p q =
     steps (length slots) (home spread slots key) p < steps (length slots) (home spread slots key) q
 
 -- each key is reached from its spread: every slot on the way from its home to its own is taken
-abbrev pub Reached : {K : Type 0} → (K → ℕ) → List (Option (Entry K)) → Type 0
-Reached {K} spread slots =
+abbrev pub AllReached : {K : Type 0} → (K → ℕ) → List (Option (Entry K)) → Type 0
+AllReached {K} spread slots =
     (place : ℕ) (entry : Entry K) → slice_index_or slots place None ≡ Some entry →
     (p : ℕ) → p < length slots → Before spread slots entry.key p place → is_some (slice_index_or slots p None) ≡ true
 
 -- what every call of an index needs and keeps
-pub record Sound {K : Type 0} (code spread : K → ℕ) (index : Index K) : Type 0 where
+pub record SoundIndex {K : Type 0} (code spread : K → ℕ) (index : Index K) : Type 0 where
   -- the count is the number of taken slots
   pub counted : index.taken ≡ count_by is_some (slots_of index)
   -- no two slots hold keys with one code
   pub different : (c : ℕ) → count_by (holds code c) (slots_of index) ≤ 1
-  pub reached : Reached spread (slots_of index)
+  pub reached : AllReached spread (slots_of index)

@@ -4,24 +4,24 @@ use Rattle.base.specs.declared.refusal.Refusal.{Refusal}
 use Rattle.std.proofs.lemmas.Bool.Decides.{nat_tests}
 use Rattle.std.proofs.lemmas.Bool.{cases_Bool, cases_eq, cases_lt, lt-ltb, le-ltb, ne_eqb, or_right}
 use Rattle.std.proofs.lemmas.List.{ext_get_or, get_or-map, get_or-take, length-map, length-take-le, length_push, length-set, get_or_push, get_or_append_left, get_or-set_same, get_or-set_other}
-use Rattle.base.specs.Lists.{member, Apart}
+use Rattle.base.specs.Lists.{member, found_in, Apart}
 use Rattle.policy.specs.Machine.{put}
 use Rattle.policy.specs.Members.{member_index}
-use Rattle.index.specs.Slots.{map_of, Sound}
+use Rattle.index.specs.Slots.{map_of, SoundIndex}
 use Rattle.planning.specs.declared.held.HeldKeys.{HeldKeys}
-use Rattle.index.specs.Maps.{Map, empty, stored, after_remove, has, accepts, put_answer, after_put}
-use Rattle.planning.specs.Frames.{keys_at, frame_of, Shows, Room, Unfilled, without_frame}
+use Rattle.index.specs.Maps.{Map, empty, with_number, after_remove, has, accepts, put_answer, after_put}
+use Rattle.planning.specs.Frames.{keys_at, Shows, Room, Unfilled, without_frame}
 use Rattle.planning.proofs.Judged.{code_at}
 
 -- one frame more, with a new key
 frame_push : (keys : List ℕ) (x y : ℕ) → member x keys ≡ false →
-    frame_of (keys ++ (x ∷ [])) y ≡ cond (eqb x y) (Some (length keys)) (frame_of keys y)
+    found_in y (keys ++ (x ∷ [])) ≡ cond (eqb x y) (Some (length keys)) (found_in y keys)
 frame_push [] x y e = grind (arith, nat_tests)
 frame_push (z ∷ zs) x y e = let ih = frame_push zs x y in grind (arith, nat_tests)
 
 -- a frame with a new key in place of its own
 frame_set : (keys : List ℕ) (f x y : ℕ) → Apart keys → f < length keys → member x keys ≡ false →
-    frame_of (set keys f x) y ≡ cond (eqb x y) (Some f) (cond (eqb (get_or keys f 0) y) None (frame_of keys y))
+    found_in y (set keys f x) ≡ cond (eqb x y) (Some f) (cond (eqb (get_or keys f 0) y) None (found_in y keys))
 frame_set [] f x y a h e = absurd (omega arith)
 frame_set (z ∷ zs) zero x y a h e = grind (arith, nat_tests)
 frame_set (z ∷ zs) (suc f) x y a h e =
@@ -31,13 +31,13 @@ frame_set (z ∷ zs) (suc f) x y a h e =
     grind (arith, nat_tests)
 
 -- a key that no frame holds has no number
-absent : (index : Map) (keys : List ℕ) (x : ℕ) → index.at x ≡ frame_of keys x → member x keys ≡ false → has index x ≡ false
+absent : (index : Map) (keys : List ℕ) (x : ℕ) → index.at x ≡ found_in x keys → member x keys ≡ false → has index x ≡ false
 absent index keys x e m = ap is_some e ∙ rw m
 
 module _ (touches hs : List ℕ) (index : Map) (keys : List ℕ) (f place : ℕ) (q : Shows touches hs index keys)
     (fresh : member (get_or touches place 0) keys ≡ false) (inside : place < length touches) (room : f < length hs) where
   -- the next frame filled
-  pub shows_fill : f ≡ length keys → Shows touches (set hs f place) (stored index (get_or touches place 0) f) (keys ++ (get_or touches place 0 ∷ []))
+  pub shows_fill : f ≡ length keys → Shows touches (set hs f place) (with_number index (get_or touches place 0) f) (keys ++ (get_or touches place 0 ∷ []))
   shows_fill last = record {
     found = λ y. rw (q.found y, frame_push keys (get_or touches place 0) y fresh, ← last);
     sized = rw (absent index keys (get_or touches place 0) (q.found (get_or touches place 0)) fresh, q.sized, length_push keys (get_or touches place 0));
@@ -55,7 +55,7 @@ module _ (touches hs : List ℕ) (index : Map) (keys : List ℕ) (f place : ℕ)
 
   -- a filled frame's key put out
   pub shows_swap : Apart keys → f < length keys →
-      Shows touches (set hs f place) (stored (after_remove index (get_or keys f 0)) (get_or touches place 0) f) (set keys f (get_or touches place 0))
+      Shows touches (set hs f place) (with_number (after_remove index (get_or keys f 0)) (get_or touches place 0) f) (set keys f (get_or touches place 0))
   shows_swap apart low = record {
     found = λ y. rw (q.found y, frame_set keys f (get_or touches place 0) y apart low fresh);
     sized =
@@ -137,6 +137,6 @@ module _ (touches hs : List ℕ) (index : Map) (keys : List ℕ) (f filled place
   shows_shown hs' index' x w = rw (shown_keys touches hs index keys filled q.shows q.counted wide) at w
 
 -- frames as they are made hold no key
-pub unfilled : {K : Type 0} (code spread : K → ℕ) (frames : HeldKeys K) (places : ℕ) → Sound code spread frames.index → map_of code frames.index ≡ empty places → frames.filled ≡ 0 →
+pub unfilled : {K : Type 0} (code spread : K → ℕ) (frames : HeldKeys K) (places : ℕ) → SoundIndex code spread frames.index → map_of code frames.index ≡ empty places → frames.filled ≡ 0 →
     Unfilled code spread frames
 unfilled code spread frames places s m z = record { sound = s; map = m ∙ ap empty (sym (ap (λ (n : Map). n.places) m)); none = z }

@@ -2,7 +2,7 @@
 use Rattle.std.proofs.Common.{◌≡◌, ℕ, suc, ◌+◌, ◌-◌, ◌*◌, ◌^◌, ◌<◌, ◌≤◌, max, cond, ◌&&◌, leb, List, [], ◌∷◌, ◌++◌, length, drop, Ok, Err, Result, sym, refl, ap, ◌∙◌, inl, inr, mul-le-mul_right, div-le_self, arith}
 use Rattle.std.specs.Result.{result_and}
 use Rattle.std.proofs.lemmas.Bool.{cases_Bool, and_parts, and_from, leb-true, le-leb, cond_both}
-use Rattle.base.specs.Geometries.{frames_of, pins_of, judged, read_off, built}
+use Rattle.base.specs.Geometries.{frames_of, pins_of, judged_numbers, read_off, built}
 use Rattle.base.specs.Lists.{member}
 use Rattle.base.specs.declared.geometry.Geometry.{Geometry}
 use Rattle.base.specs.declared.refusal.Refusal.{Refusal}
@@ -86,7 +86,7 @@ pub replay_passes : (n k h : ℕ) (p : Places) → Passed n k h (max k h) p → 
 replay_passes n k h p q = rw (le-leb n most_touches q.few, and_from (leb n p.slots) (leb k p.held) (le-leb n p.slots q.slots_for) (le-leb k p.held (omega (arith, q.held_for))))
 
 -- and the geometry of its frames is made
-pub geometry_made : (k : ℕ) → 1 ≤ k → k ≤ 64 → judged k 0 ≡ Ok (k, 0)
+pub geometry_made : (k : ℕ) → 1 ≤ k → k ≤ 64 → judged_numbers k 0 ≡ Ok (k, 0)
 geometry_made k some most = rw (and_from (leb 1 k) (leb k 64) (le-leb 1 k some) (le-leb k 64 most))
 
 pub geometry_frames : (k : ℕ) (r : Result Geometry Refusal) (g : Geometry) → 1 ≤ k → k ≤ 64 → built k 0 r → r ≡ Ok g → frames_of g ≡ k

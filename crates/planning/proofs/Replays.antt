@@ -3,17 +3,17 @@ use Rattle.std.proofs.Common.{◌≡◌, ℕ, ◌+◌, ◌<◌, ◌≤◌, max, 
 use Rattle.std.proofs.lemmas.Option.{cond_some}
 use Rattle.std.proofs.lemmas.List.{take_all, take_more, length-take-le, length_push, length-set}
 use Rattle.std.proofs.lemmas.Bool.{cases_Bool, cases_lt, lt-ltb, cond_both}
-use Rattle.base.specs.Lists.{member, place_in}
+use Rattle.base.specs.Lists.{member, place_in, found_in}
 use Rattle.policy.specs.Machine.{Rules, Machine, put, hit, fetch, touch, touched, fetches}
 use Rattle.policy.specs.Shape.{Shape, Running}
 use Rattle.policy.specs.Calls.{use_answer, after_use}
 use Rattle.policy.specs.Machines.{touched_push, fetches_push, fetches_most, running_touched, place_below, place_most, hit_filled, put_next, put_over}
 use Rattle.index.specs.Maps.{Map, empty}
-use Rattle.planning.specs.Frames.{frame_of, Shows, Room}
+use Rattle.planning.specs.Frames.{Shows, Room}
 
 -- a key that the index does not find
-pub found_none : (index : Map) (keys : List ℕ) (x : ℕ) → index.at x ≡ frame_of keys x → index.at x ≡ None → member x keys ≡ false
-found_none index keys x sh e = let w : frame_of keys x ≡ None = sym sh ∙ e in elim (cases_Bool (member x keys)) [
+pub found_none : (index : Map) (keys : List ℕ) (x : ℕ) → index.at x ≡ found_in x keys → index.at x ≡ None → member x keys ≡ false
+found_none index keys x sh e = let w : found_in x keys ≡ None = sym sh ∙ e in elim (cases_Bool (member x keys)) [
   | inl m ↦ absurd (let q : Some (place_in x keys) ≡ None = rw m at w in let z : ◌≡◌ {A = ℕ} 0 1 = cc in omega arith)
   | inr m ↦ m
 ]

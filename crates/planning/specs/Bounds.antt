@@ -22,7 +22,7 @@ Competitive {Setting} r = (c : Setting) (k h d : ℕ) (before stretch held : Lis
 
 -- What a forecast promises of touches on k frames and a schedule on h: the plan's schedule is optimal with d fetches; against
 -- every schedule on h frames the policy's fetches f keep the bound; and they are at most the ceiling.
-pub record Bounded (k h : ℕ) (touches frames : List ℕ) (d ceiling f : ℕ) : Type 0 where
+pub record ForecastHolds (k h : ℕ) (touches frames : List ℕ) (d ceiling f : ℕ) : Type 0 where
   pub optimal : Optimal h touches frames d
   pub bound : (e : ℕ) → Demand h [] touches e → (k - h + 1) * f ≤ k * e + k * (k - h + 1)
   pub under : f ≤ ceiling

@@ -1,13 +1,9 @@
 -- How the index and the held-key list show which keys the frames hold. Assumes nothing.
-use Rattle.std.specs.Prelude.{◌≡◌, ℕ, ◌<◌, ◌≤◌, false, cond, List, length, map, take, Some, None, Option, nat_lt, slice_index}
-use Rattle.base.specs.Lists.{member, place_in, Apart}
+use Rattle.std.specs.Prelude.{◌≡◌, ℕ, ◌<◌, ◌≤◌, false, cond, List, length, map, take, nat_lt, slice_index}
+use Rattle.base.specs.Lists.{member, found_in, Apart}
 use Rattle.index.specs.Maps.{Map, empty, after_remove}
-use Rattle.index.specs.Slots.{map_of, Sound}
+use Rattle.index.specs.Slots.{map_of, SoundIndex}
 use Rattle.planning.specs.declared.held.HeldKeys.{HeldKeys}
-
--- the frame that holds a key, if there is one
-abbrev pub frame_of : List ℕ → ℕ → Option ℕ
-frame_of keys x = cond (member x keys) (Some (place_in x keys)) None
 
 -- the keys of the filled frames, by their places in the list of touches
 abbrev pub keys_at : List ℕ → List ℕ → ℕ → List ℕ
@@ -15,7 +11,7 @@ keys_at touches held filled = map (slice_index touches) (take filled held)
 
 -- The index finds each held key's frame, and the held-key list has for each filled frame the place of its key in the list of touches.
 pub record Shows (touches held : List ℕ) (index : Map) (keys : List ℕ) : Type 0 where
-  pub found : (x : ℕ) → index.at x ≡ frame_of keys x
+  pub found : (x : ℕ) → index.at x ≡ found_in x keys
   pub sized : index.size ≡ length keys
   pub placed : (f : ℕ) → f < length keys → slice_index held f < length touches
   pub holds : (f : ℕ) → f < length keys → slice_index touches (slice_index held f) ≡ slice_index keys f
@@ -36,7 +32,7 @@ without_frame touches held index frame filled =
 
 -- no frame is filled yet
 pub record Unfilled {K : Type 0} (code spread : K → ℕ) (frames : HeldKeys K) : Type 0 where
-  pub sound : Sound code spread frames.index
+  pub sound : SoundIndex code spread frames.index
   pub map : map_of code frames.index ≡ empty (map_of code frames.index).places
   pub none : frames.filled ≡ 0
 

@@ -3,7 +3,7 @@
 ghost use Rattle.std.specs.Prelude.{◌≡◌, ℕ, ◌+◌, ◌<◌, ◌≤◌, max, map, length, slice_index, slice_set};
 ghost use Rattle.policy.specs.Machine.{put};
 ghost use Rattle.index.specs.Maps.{empty};
-ghost use Rattle.index.specs.Slots.{map_of, Sound};
+ghost use Rattle.index.specs.Slots.{map_of, SoundIndex};
 ghost use Rattle.planning.specs.Chosen.{HeldBelow};
 ghost use Rattle.planning.specs.Frames.{held_codes, Holds, HasRoom, emptied};
 
@@ -20,7 +20,7 @@ pub struct HeldKeys<'a, K> {
 impl<'a, K: Key> HeldKeys<'a, K> {
     // As many frames as the held-key list has places. None is filled, whatever the lists had.
     pub fn new(slots: &'a mut [Slot<K>], held: &'a mut [u32]) -> HeldKeys<'a, K>
-        ensures sound { Sound K.Key.code K.Key.spread result.index }
+        ensures sound { SoundIndex K.Key.code K.Key.spread result.index }
         ensures map { map_of K.Key.code result.index ≡ empty (length slots.old) }
         ensures held { result.held.now ≡ held.old }
         ensures filled { result.filled ≡ 0 }
@@ -34,7 +34,7 @@ impl<'a, K: Key> HeldKeys<'a, K> {
 
     // The frame that holds a key.
     pub fn frame_of(&self, key: &K) -> Option<usize>
-        requires { Sound K.Key.code K.Key.spread self.now.index }
+        requires { SoundIndex K.Key.code K.Key.spread self.now.index }
         ensures { result ≡ (map_of K.Key.code self.now.index).at (K.Key.code key.now) }
     {
         self.index.find(key).map(|frame| frame as usize)
@@ -52,10 +52,10 @@ impl<'a, K: Key> HeldKeys<'a, K> {
 
     // Puts the key that a filled frame holds out of the index.
     fn put_out(&mut self, keys: &[K], frame: usize)
-        requires sound { Sound K.Key.code K.Key.spread self.old.index }
+        requires sound { SoundIndex K.Key.code K.Key.spread self.old.index }
         requires held { HeldBelow self.old.filled self.old.held.now (length keys.now) }
         requires within { frame < length self.old.held.now }
-        ensures sound { Sound K.Key.code K.Key.spread self.new.index }
+        ensures sound { SoundIndex K.Key.code K.Key.spread self.new.index }
         ensures map { map_of K.Key.code self.new.index ≡ emptied K.Key.code keys.now self.old frame }
         ensures held { self.new.held.now ≡ self.old.held.now }
         ensures filled { self.new.filled ≡ self.old.filled }
@@ -68,10 +68,10 @@ impl<'a, K: Key> HeldKeys<'a, K> {
 
     // Holds the key at a place of the list in a frame, filled or the next to fill; a key that the frame held is put out.
     pub fn hold(&mut self, keys: &[K], frame: usize, place: usize)
-        requires sound { Sound K.Key.code K.Key.spread self.old.index }
+        requires sound { SoundIndex K.Key.code K.Key.spread self.old.index }
         requires within { (frame < length self.old.held.now) × ((frame < 64) × ((place < length keys.now) × (place < 4096))) }
         requires room { HasRoom K.Key.code keys.now self.old frame place }
-        ensures sound { Sound K.Key.code K.Key.spread self.new.index }
+        ensures sound { SoundIndex K.Key.code K.Key.spread self.new.index }
         ensures places { (map_of K.Key.code self.new.index).places ≡ (map_of K.Key.code self.old.index).places }
         ensures held { self.new.held.now ≡ slice_set self.old.held.now frame place }
         ensures filled { self.new.filled ≡ max self.old.filled (frame + 1) }

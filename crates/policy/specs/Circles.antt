@@ -33,16 +33,16 @@ pub others : (f a n : ℕ) → (f < a) ⊎ (a + n ≤ f) → AllByRecursion (λ 
 others f a n out = All-weaker _ _ (λ x h. omega arith) (upward a n) (upward_within a n)
 
 -- the circle from h on: h, and what comes after it
-unfoldable pub behind : ℕ → ℕ → List ℕ
-behind size h = upward (h + 1) (size - (h + 1)) ++ upward 0 h
+unfoldable pub after_hand : ℕ → ℕ → List ℕ
+after_hand size h = upward (h + 1) (size - (h + 1)) ++ upward 0 h
 
-pub circle_here : (size h : ℕ) → h < size → circle size h ≡ h ∷ behind size h
-unfolding behind
+pub circle_here : (size h : ℕ) → h < size → circle size h ≡ h ∷ after_hand size h
+unfolding after_hand
 circle_here size h low = let e : size - h ≡ suc (size - (h + 1)) = omega arith in rw e
 
 -- the circle once the hand has moved on: h is its last
-pub circle_next : (size h : ℕ) → h < size → circle size (onward size h) ≡ behind size h ++ (h ∷ [])
-unfolding behind
+pub circle_next : (size h : ℕ) → h < size → circle size (onward size h) ≡ after_hand size h ++ (h ∷ [])
+unfolding after_hand
 circle_next size h low =
     elim (cases_lt (h + 1) size) [
       | inl more ↦ rw (cond-true (nat_lt (h + 1) size) (h + 1) 0 (lt-ltb (h + 1) size more), upward_push h) (simp append_assoc)
@@ -57,8 +57,8 @@ circle_next size h low =
     ]
 
 -- h is not behind itself
-pub behind_others : (size h : ℕ) → AllByRecursion (λ x. x ≢ h) (behind size h)
-unfolding behind
+pub behind_others : (size h : ℕ) → AllByRecursion (λ x. x ≢ h) (after_hand size h)
+unfolding after_hand
 behind_others size h =
     All-append _ (upward (h + 1) (size - (h + 1))) (upward 0 h)
     (others h (h + 1) (size - (h + 1)) (inl (omega arith))) (others h 0 h (inr (omega arith)))

@@ -88,14 +88,14 @@ length-classes (p ∷ ps) n h =
     omega (arith, simp length-append at (ap length before), simp length-append at (ap length after), length-classes ps n h.1)
 
 -- a frame whose count is set to the highest moves later
-pub raised : (us vs : List Counted) (f i t j n : ℕ) → t ≡ j + n → j ≤ i → i ≤ t →
+pub raised_later : (us vs : List Counted) (f i t j n : ℕ) → t ≡ j + n → j ≤ i → i ≤ t →
     Later f (classes (us ++ ((f, i) ∷ vs)) j (suc n)) (classes (us ++ ((f, t) ∷ vs)) j (suc n))
 unfolding classes
-raised us vs f i t j zero top low high =
+raised_later us vs f i t j zero top low high =
     let (a, b, before, after) = one_more us vs f i j 1 low (omega arith) in
     let same : t ≡ i = omega arith in
     (a, [], b, after, ap (λ k. classes (us ++ ((f, k) ∷ vs)) j 1) same ∙ after)
-raised us vs f i t j (suc n) top low high =
+raised_later us vs f i t j (suc n) top low high =
     elim (cases_eq i j) [
       | inl e ↦
           let (a, b, before, after) = one_more us vs f t (j + 1) (suc n) (omega arith) (omega arith) in (
@@ -106,7 +106,7 @@ raised us vs f i t j (suc n) top low high =
             rw (with_no_at us vs f t j (omega arith), with_append j us vs, after) (simp append_assoc),
           )
       | inr ne ↦
-          let (a, b, c, before, after) = raised us vs f i t (j + 1) n (omega arith) (omega arith) high in (
+          let (a, b, c, before, after) = raised_later us vs f i t (j + 1) n (omega arith) (omega arith) high in (
             with_count j (us ++ vs) ++ a,
             b,
             c,
@@ -116,11 +116,11 @@ raised us vs f i t j (suc n) top low high =
     ]
 
 -- lowering the count of the first frame and moving it to the end changes nothing
-pub lowered : (ps : List Counted) (f i j n : ℕ) → j ≤ i → suc i < j + n → classes ((f, suc i) ∷ ps) j n ≡ classes (ps ++ ((f, i) ∷ [])) j n
+pub lowered_same : (ps : List Counted) (f i j n : ℕ) → j ≤ i → suc i < j + n → classes ((f, suc i) ∷ ps) j n ≡ classes (ps ++ ((f, i) ∷ [])) j n
 unfolding classes with_count
-lowered ps f i j zero low high = absurd (omega arith)
-lowered ps f i j (suc zero) low high = absurd (omega arith)
-lowered ps f i j (suc (suc n)) low high =
+lowered_same ps f i j zero low high = absurd (omega arith)
+lowered_same ps f i j (suc zero) low high = absurd (omega arith)
+lowered_same ps f i j (suc (suc n)) low high =
     elim (cases_eq i j) [
       | inl e ↦
           rw (
@@ -137,7 +137,7 @@ lowered ps f i j (suc (suc n)) low high =
         with_no f (suc i) j ps (omega arith),
         with_no_at ps [] f i j ne,
         append-nil ps,
-        lowered ps f i (j + 1) (suc n) (omega arith) (omega arith),
+        lowered_same ps f i (j + 1) (suc n) (omega arith) (omega arith),
       )
     ]
 

@@ -11,9 +11,9 @@ use Rattle.base.specs.Rings.{onward}
 use Rattle.policy.specs.Circle.{upward}
 use Rattle.policy.specs.Counting.{CountState, count_rules, count_place, count_sweep}
 use Rattle.policy.specs.CountOrders.{CountValid, count_order}
-use Rattle.policy.specs.Classes.{Counted, classes, raised, foremost, hindmost}
-use Rattle.policy.specs.Circles.{behind, circle_next, upward_push, others}
-use Rattle.policy.specs.Rings.{counted, frames, frames_below, frames_full, frames_room, order_of, order_set, order_at}
+use Rattle.policy.specs.Classes.{Counted, classes, raised_later, foremost, hindmost}
+use Rattle.policy.specs.Circles.{after_hand, circle_next, upward_push, others}
+use Rattle.policy.specs.Rings.{with_counts, frames, frames_below, frames_full, frames_room, order_of, order_set, order_at}
 use Rattle.policy.specs.Sweeps.{moved, set_within, onward_within, swept_stops, here_order, moved_order, moved_valid}
 
 -- a count set to the highest, beside others that are the highest
@@ -60,7 +60,7 @@ module _ (s : CountState) (v : CountValid s) (room : s.filled < s.size) where
   }
 
   filled_one_frames : frames (filled_one s) ≡ upward 0 s.filled ++ (s.filled ∷ [])
-  unfolding behind
+  unfolding after_hand
   filled_one_frames =
       elim (cases_lt (s.filled + 1) s.size) [
         | inl more ↦ frames_room (filled_one s) (filled_one_valid.hand_at_room more) ∙ upward_push s.filled
@@ -70,11 +70,11 @@ module _ (s : CountState) (v : CountValid s) (room : s.filled < s.size) where
       ]
 
   filled_one_order : count_order (filled_one s) ≡ count_order s ++ (s.filled ∷ [])
-  unfolding counted
+  unfolding with_counts
   filled_one_order =
       order_set (filled_one s) s.counts (upward 0 s.filled) [] s.filled s.top refl filled_one_frames (omega arith)
       (others s.filled 0 s.filled (inr (omega arith))) tt
-      ∙ hindmost (counted s.counts (upward 0 s.filled)) s.filled s.top 0 s.top (omega arith)
+      ∙ hindmost (with_counts s.counts (upward 0 s.filled)) s.filled s.top 0 s.top (omega arith)
       ∙ ap (λ xs. xs ++ (s.filled ∷ [])) (sym (order_of s _ (frames_room s (v.hand_at_room room))))
 
 -- a place, with room or without
@@ -106,7 +106,7 @@ pub full_order : (s : CountState) → CountValid s → s.filled ≡ s.size →
 full_order s v full =
     let t : CountState = stopped s in
     let d = swept_stops s v full in
-    let ps : List Counted = counted t.counts (behind t.size t.hand) in
+    let ps : List Counted = with_counts t.counts (after_hand t.size t.hand) in
     let rest : List ℕ = classes ps 0 (suc t.top) in
     let place : t.hand ≡ count_place s = sym (place_full s full) in (
       rest,
@@ -134,7 +134,7 @@ module _ (s : CountState) (v : CountValid s) (f : ℕ) (low : f < s.filled) wher
   used_order =
       let o = (frames_below s v).once f low in
       let (a, b, c, before, after) =
-      raised (counted s.counts o.before) (counted s.counts o.after) f (slice_index s.counts f) s.top 0
+      raised_later (with_counts s.counts o.before) (with_counts s.counts o.after) f (slice_index s.counts f) s.top 0
       s.top (omega arith) (omega arith) (v.counts_within f) in (
         a,
         b,

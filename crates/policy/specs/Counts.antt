@@ -8,7 +8,7 @@ use Rattle.policy.specs.Counting.{CountState, count_rules}
 use Rattle.policy.specs.CountOrders.{CountValid, count_order}
 use Rattle.policy.specs.Members.{member_at, all_member}
 use Rattle.policy.specs.Classes.{classes_none}
-use Rattle.policy.specs.Rings.{counted, frames_room, order_of, length-order, order_within, order_has}
+use Rattle.policy.specs.Rings.{with_counts, frames_room, order_of, length-order, order_within, order_has}
 use Rattle.policy.specs.CountPlaces.{placed_valid, placed_frames, room_order, full_order, used_valid, used_order}
 
 first_valid : (c k : ℕ) → 1 ≤ k → CountValid (count_rules.first c k)
@@ -27,7 +27,7 @@ first_valid c k some = record {
 }
 
 first_order : (c k : ℕ) → count_order (count_rules.first c k) ≡ []
-unfolding counted
+unfolding with_counts
 first_order c k = let s : CountState = count_rules.first c k in order_of s [] (frames_room s refl) ∙ classes_none 0 (suc c)
 
 pub count_ordered : OrderedBy count_rules CountValid count_order

@@ -26,8 +26,8 @@ linked r p [] q = neighbours r p q
 linked r p (x ∷ xs) q = neighbours r p x && linked r x xs q
 
 -- the sentinel alone: it comes after itself
-abbrev pub alone : Ring
-alone = record { next = replicate 65 64; previous = replicate 65 64 }
+abbrev pub sentinel_alone : Ring
+sentinel_alone = record { next = replicate 65 64; previous = replicate 65 64 }
 
 -- two made neighbours
 abbrev pub connected : Ring → ℕ → ℕ → Ring

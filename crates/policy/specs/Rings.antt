@@ -15,28 +15,28 @@ use Rattle.policy.specs.Classes.{Counted, with_count, classes, length-classes, a
 use Rattle.policy.specs.Circles.{Once, once_circle, once_upward, circle_within, length-circle, upward_within, length-upward}
 
 -- frames with their counts
-unfoldable pub counted : List ℕ → List ℕ → List Counted
-counted counts xs = map (λ f. (f, slice_index counts f)) xs
+unfoldable pub with_counts : List ℕ → List ℕ → List Counted
+with_counts counts xs = map (λ f. (f, slice_index counts f)) xs
 
-counted_append : (counts xs ys : List ℕ) → counted counts (xs ++ ys) ≡ counted counts xs ++ counted counts ys
-unfolding counted
+counted_append : (counts xs ys : List ℕ) → with_counts counts (xs ++ ys) ≡ with_counts counts xs ++ with_counts counts ys
+unfolding with_counts
 counted_append counts xs ys = map-append _ xs ys
 
 -- a frame of the circle with its count
 counted_at : (counts xs ys : List ℕ) (f : ℕ) →
-    counted counts (xs ++ (f ∷ ys)) ≡ counted counts xs ++ ((f, slice_index counts f) ∷ counted counts ys)
-unfolding counted
+    with_counts counts (xs ++ (f ∷ ys)) ≡ with_counts counts xs ++ ((f, slice_index counts f) ∷ with_counts counts ys)
+unfolding with_counts
 counted_at counts xs ys f = counted_append counts xs (f ∷ ys)
 
 -- a new count of f changes nothing at the others
-counted_set : (counts xs : List ℕ) (f v : ℕ) → AllByRecursion (λ x. x ≢ f) xs → counted (slice_set counts f v) xs ≡ counted counts xs
-unfolding counted
+counted_set : (counts xs : List ℕ) (f v : ℕ) → AllByRecursion (λ x. x ≢ f) xs → with_counts (slice_set counts f v) xs ≡ with_counts counts xs
+unfolding with_counts
 counted_set counts [] f v h = refl
 counted_set counts (x ∷ xs) f v h = rw (get_or-set_other counts f x v 0 h.0, counted_set counts xs f v h.1)
 
 -- f with its new count
 counted_set_at : (counts xs ys : List ℕ) (f v : ℕ) → f < length counts → AllByRecursion (λ x. x ≢ f) xs → AllByRecursion (λ x. x ≢ f) ys →
-    counted (slice_set counts f v) (xs ++ (f ∷ ys)) ≡ counted counts xs ++ ((f, v) ∷ counted counts ys)
+    with_counts (slice_set counts f v) (xs ++ (f ∷ ys)) ≡ with_counts counts xs ++ ((f, v) ∷ with_counts counts ys)
 counted_set_at counts xs ys f v low h k =
     rw (
       counted_at (slice_set counts f v) xs ys f,
@@ -51,8 +51,8 @@ kept_both p q [] = refl
 kept_both p q (x ∷ xs) = grind (arith, kept_both p q xs)
 
 -- the frames with count j, taken before their counts are added
-kept_counted : (counts : List ℕ) (j : ℕ) (xs : List ℕ) → filter (λ f. nat_eq (slice_index counts f) j) xs ≡ with_count j (counted counts xs)
-unfolding counted with_count
+kept_counted : (counts : List ℕ) (j : ℕ) (xs : List ℕ) → filter (λ f. nat_eq (slice_index counts f) j) xs ≡ with_count j (with_counts counts xs)
+unfolding with_counts with_count
 kept_counted counts j [] = refl
 kept_counted counts j (x ∷ xs) = grind (arith, kept_counted counts j xs)
 
@@ -61,12 +61,12 @@ unfoldable pub frames : CountState → List ℕ
 frames s = filter (λ f. nat_lt f s.filled) (circle s.size s.hand)
 
 -- with their counts
-unfoldable pub ring : CountState → List Counted
-ring s = counted s.counts (frames s)
+unfoldable pub clock_ring : CountState → List Counted
+clock_ring s = with_counts s.counts (frames s)
 
 -- a clock's order is by the classes of its ring
-from_is : (s : CountState) (j n : ℕ) → from_count s j n ≡ classes (ring s) j n
-unfolding ring frames classes
+from_is : (s : CountState) (j n : ℕ) → from_count s j n ≡ classes (clock_ring s) j n
+unfolding clock_ring frames classes
 from_is s j zero = refl
 from_is s j (suc n) =
     ap₂ (λ xs ys. xs ++ ys)
@@ -74,22 +74,22 @@ from_is s j (suc n) =
     kept_counted s.counts j (frames s))
     (from_is s (j + 1) n)
 
-pub order_is : (s : CountState) → count_order s ≡ classes (ring s) 0 (suc s.top)
-order_is s = from_is s 0 (s.top + 1) ∙ ap (classes (ring s) 0) (add-one s.top)
+pub order_is : (s : CountState) → count_order s ≡ classes (clock_ring s) 0 (suc s.top)
+order_is s = from_is s 0 (s.top + 1) ∙ ap (classes (clock_ring s) 0) (add-one s.top)
 
 -- the order, where the filled frames are known
-pub order_of : (s : CountState) (fs : List ℕ) → frames s ≡ fs → count_order s ≡ classes (counted s.counts fs) 0 (suc s.top)
-unfolding ring
-order_of s fs e = order_is s ∙ ap (λ xs. classes (counted s.counts xs) 0 (suc s.top)) e
+pub order_of : (s : CountState) (fs : List ℕ) → frames s ≡ fs → count_order s ≡ classes (with_counts s.counts fs) 0 (suc s.top)
+unfolding clock_ring
+order_of s fs e = order_is s ∙ ap (λ xs. classes (with_counts s.counts xs) 0 (suc s.top)) e
 
 -- the order, where f has a new count n
 pub order_set : (s : CountState) (counts xs ys : List ℕ) (f n : ℕ) → s.counts ≡ slice_set counts f n →
     frames s ≡ xs ++ (f ∷ ys) → f < length counts →
     AllByRecursion (λ x. x ≢ f) xs → AllByRecursion (λ x. x ≢ f) ys →
-    count_order s ≡ classes (counted counts xs ++ ((f, n) ∷ counted counts ys)) 0 (suc s.top)
+    count_order s ≡ classes (with_counts counts xs ++ ((f, n) ∷ with_counts counts ys)) 0 (suc s.top)
 order_set s counts xs ys f n new e low h k =
     order_of s (xs ++ (f ∷ ys)) e
-    ∙ ap (λ ps. classes ps 0 (suc s.top)) (ap (λ cs. counted cs (xs ++ (f ∷ ys))) new ∙ counted_set_at counts xs ys f n low h k)
+    ∙ ap (λ ps. classes ps 0 (suc s.top)) (ap (λ cs. with_counts cs (xs ++ (f ∷ ys))) new ∙ counted_set_at counts xs ys f n low h k)
 
 -- a test that all pass, and one that none passes
 kept_all : (p : ℕ → Bool) (xs : List ℕ) → AllByRecursion (λ x. p x ≡ true) xs → filter p xs ≡ xs
@@ -142,22 +142,22 @@ frames_below s v =
 
 -- the order has the filled frames, each once
 module _ (s : CountState) (v : CountValid s) where
-  ring_within : AllByRecursion (λ p. p.1 < suc s.top) (ring s)
-  unfolding ring counted
+  ring_within : AllByRecursion (λ p. p.1 < suc s.top) (clock_ring s)
+  unfolding clock_ring with_counts
   ring_within = All-map _ _ (frames s) (All-weaker _ _ (λ x _. omega (arith, v.counts_within x)) (frames s) (frames_below s v).within)
 
   pub length-order : length (count_order s) ≡ s.filled
-  unfolding ring counted
-  length-order = ap length (order_is s) ∙ length-classes (ring s) (suc s.top) ring_within ∙
+  unfolding clock_ring with_counts
+  length-order = ap length (order_is s) ∙ length-classes (clock_ring s) (suc s.top) ring_within ∙
       length-map (frames s) _ ∙ (frames_below s v).many
 
   pub order_within : AllByRecursion (λ x. x < s.filled) (count_order s)
-  unfolding ring counted
-  order_within = rw (order_is s) (all_classes _ (ring s) 0 (suc s.top) (All-map _ _ (frames s) (frames_below s v).within))
+  unfolding clock_ring with_counts
+  order_within = rw (order_is s) (all_classes _ (clock_ring s) 0 (suc s.top) (All-map _ _ (frames s) (frames_below s v).within))
 
   -- the order around a filled frame
   pub order_at : (f : ℕ) (low : f < s.filled) → let o = (frames_below s v).once f low in
-      count_order s ≡ classes (counted s.counts o.before ++ ((f, slice_index s.counts f) ∷ counted s.counts o.after)) 0 (suc s.top)
+      count_order s ≡ classes (with_counts s.counts o.before ++ ((f, slice_index s.counts f) ∷ with_counts s.counts o.after)) 0 (suc s.top)
   order_at f low =
       let o = (frames_below s v).once f low in
       order_of s _ o.is ∙ ap (λ ps. classes ps 0 (suc s.top)) (counted_at s.counts o.before o.after f)
@@ -165,6 +165,6 @@ module _ (s : CountState) (v : CountValid s) where
   pub order_has : (f : ℕ) → f < s.filled → (a : List ℕ) × (b : List ℕ) × (count_order s ≡ a ++ (f ∷ b))
   order_has f low =
       let o = (frames_below s v).once f low in
-      let (a, b, _, e) = one_more (counted s.counts o.before) (counted s.counts o.after) f (slice_index s.counts f) 0
+      let (a, b, _, e) = one_more (with_counts s.counts o.before) (with_counts s.counts o.after) f (slice_index s.counts f) 0
       (suc s.top) (omega arith) (omega (arith, v.counts_within f)) in
       (a, b, order_at f low ∙ e)

@@ -46,14 +46,14 @@ pub data Step (k x : ℕ) : List ℕ → List ℕ → List ℕ → List ℕ → 
       Step k x keys (f ∷ rest) (slice_set keys f x) (rest ++ (f ∷ []))
 
 -- frame f holds one of the keys of whole
-abbrev pub Holds : List ℕ → List ℕ → ℕ → Type 0
-Holds whole keys f = (f < length keys) × (member (slice_index keys f) whole ≡ true)
+abbrev pub HoldsOneOf : List ℕ → List ℕ → ℕ → Type 0
+HoldsOneOf whole keys f = (f < length keys) × (member (slice_index keys f) whole ≡ true)
 
 -- it does so after a fetch of such a key too
-holds_push : (whole keys : List ℕ) (x f : ℕ) → Holds whole keys f → Holds whole (keys ++ (x ∷ [])) f
+holds_push : (whole keys : List ℕ) (x f : ℕ) → HoldsOneOf whole keys f → HoldsOneOf whole (keys ++ (x ∷ [])) f
 holds_push whole keys x f h = (simp length_push (omega arith), rw (get_or_append_left keys (x ∷ []) 0 f h.0) h.1)
 
-holds_set : (whole keys : List ℕ) (x g : ℕ) → member x whole ≡ true → (f : ℕ) → Holds whole keys f → Holds whole (slice_set keys g x) f
+holds_set : (whole keys : List ℕ) (x g : ℕ) → member x whole ≡ true → (f : ℕ) → HoldsOneOf whole keys f → HoldsOneOf whole (slice_set keys g x) f
 holds_set whole keys x g w f h = (
   simp length-set h.0,
   ⊎_elim (λ e. rw (e, get_or-set_same keys g x 0 (rw e at h.0)) w) (λ n. rw (get_or-set_other keys g f x 0 n) h.1) (cases_eq f g),
@@ -61,19 +61,19 @@ holds_set whole keys x g w f h = (
 
 -- all frames of the order but the first j hold keys of whole
 abbrev pub Recent : List ℕ → ℕ → List ℕ → List ℕ → Type 0
-Recent whole j keys order = AllByRecursion (Holds whole keys) (drop j order)
+Recent whole j keys order = AllByRecursion (HoldsOneOf whole keys) (drop j order)
 
 -- a use of such a frame leaves the first j, or fewer
 pub later_recent : (whole : List ℕ) (j : ℕ) (keys order order' : List ℕ) (f : ℕ) → Later f order order' →
-    Holds whole keys f → Recent whole j keys order → Recent whole j keys order'
+    HoldsOneOf whole keys f → Recent whole j keys order → Recent whole j keys order'
 later_recent whole j keys order order' f l p h =
-    rw l.4 (drop-later (Holds whole keys) f p j l.0 l.1 l.2 (rw l.3 at h))
+    rw l.4 (drop-later (HoldsOneOf whole keys) f p j l.0 l.1 l.2 (rw l.3 at h))
 
 -- if all frames hold keys of whole, and x is another key of it, whole has more different keys than there are frames
 full_recent : (whole keys order : List ℕ) (x : ℕ) → Recent whole 0 keys order → ((f : ℕ) → f < length keys → member f order ≡ true) →
     member x whole ≡ true → member x keys ≡ false → Apart keys → length keys < distinct whole
 full_recent whole keys order x h c w n a =
-    apart_few (x ∷ keys) whole (n, a) (w, All-from_get_or _ keys 0 (λ f l. (all_member (Holds whole keys) order f h (c f l)).1))
+    apart_few (x ∷ keys) whole (n, a) (w, All-from_get_or _ keys 0 (λ f l. (all_member (HoldsOneOf whole keys) order f h (c f l)).1))
 
 -- a fetch uses up one of the other frames
 pub step_recent : {k x : ℕ} {keys order keys' order' : List ℕ} → Step k x keys order keys' order' →
@@ -83,7 +83,7 @@ pub step_recent : {k x : ℕ} {keys order keys' order' : List ℕ} → Step k x 
 step_recent {x} {keys} {order} fills whole d w n a c j h = (
   j,
   simp length_push (omega arith),
-  drop-push (Holds whole (keys ++ (x ∷ []))) (length keys)
+  drop-push (HoldsOneOf whole (keys ++ (x ∷ []))) (length keys)
       (simp length_push (omega arith), rw (get_or_push keys x 0 (length keys) refl) w) j order
       (All-weaker _ _ (holds_push whole keys x) (drop j order) h),
 )
@@ -92,6 +92,6 @@ step_recent {x} (swaps {keys} {rest} {f} l e) whole d w n a c zero h =
 step_recent {x} (swaps {keys} {rest} {f} l e) whole d w n a c (suc j) h = (
   j,
   simp length-set (omega arith),
-  drop-push (Holds whole (slice_set keys f x)) f (simp length-set l, rw (get_or-set_same keys f x 0 l) w) j rest
+  drop-push (HoldsOneOf whole (slice_set keys f x)) f (simp length-set l, rw (get_or-set_same keys f x 0 l) w) j rest
       (All-weaker _ _ (holds_set whole keys x f w) (drop j rest) h),
 )

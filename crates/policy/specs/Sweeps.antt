@@ -10,9 +10,9 @@ use Rattle.std.proofs.lemmas.Bool.{cases_lt, cases_eq, cond-true, cond-false, lt
 use Rattle.base.specs.Rings.{onward}
 use Rattle.policy.specs.Counting.{CountState, count_sweep}
 use Rattle.policy.specs.CountOrders.{CountValid, count_order}
-use Rattle.policy.specs.Classes.{Counted, classes, lowered}
-use Rattle.policy.specs.Circles.{behind, circle_here, circle_next, behind_others}
-use Rattle.policy.specs.Rings.{counted, frames_full, order_of, order_set}
+use Rattle.policy.specs.Classes.{Counted, classes, lowered_same}
+use Rattle.policy.specs.Circles.{after_hand, circle_here, circle_next, behind_others}
+use Rattle.policy.specs.Rings.{with_counts, frames_full, order_of, order_set}
 
 -- the hand gives its frame the count n, and moves on
 abbrev pub moved : CountState → ℕ → CountState
@@ -43,16 +43,16 @@ module _ (s : CountState) (v : CountValid s) (full : s.filled ≡ s.size) where
   }
 
   -- the order as the hand stands
-  pub here_order : count_order s ≡ classes ((s.hand, slice_index s.counts s.hand) ∷ counted s.counts (behind s.size s.hand)) 0 (suc s.top)
-  unfolding counted
+  pub here_order : count_order s ≡ classes ((s.hand, slice_index s.counts s.hand) ∷ with_counts s.counts (after_hand s.size s.hand)) 0 (suc s.top)
+  unfolding with_counts
   here_order = order_of s _ (frames_full s v.hand_within full ∙ circle_here s.size s.hand v.hand_within)
 
   -- the order once it has moved on
   pub moved_order : (n : ℕ) →
-      count_order (moved s n) ≡ classes (counted s.counts (behind s.size s.hand) ++ ((s.hand, n) ∷ [])) 0 (suc s.top)
-  unfolding counted
+      count_order (moved s n) ≡ classes (with_counts s.counts (after_hand s.size s.hand) ++ ((s.hand, n) ∷ [])) 0 (suc s.top)
+  unfolding with_counts
   moved_order n =
-      order_set (moved s n) s.counts (behind s.size s.hand) [] s.hand n refl
+      order_set (moved s n) s.counts (after_hand s.size s.hand) [] s.hand n refl
       (frames_full (moved s n) (onward_within s.size s.hand v.some) full ∙ circle_next s.size s.hand v.hand_within)
       (omega arith) (behind_others s.size s.hand) tt
 
@@ -61,14 +61,14 @@ module _ (s : CountState) (v : CountValid s) (full : s.filled ≡ s.size) where
   lowered_order more =
       let n : ℕ = slice_index_or s.counts s.hand 0 in
       let e : suc (n - 1) ≡ n = omega arith in
-      let ps : List Counted = counted s.counts (behind s.size s.hand) in
+      let ps : List Counted = with_counts s.counts (after_hand s.size s.hand) in
       moved_order (n - 1)
-      ∙ sym (lowered ps s.hand (n - 1) 0 (suc s.top) (omega arith) (omega (arith, v.counts_within s.hand)))
+      ∙ sym (lowered_same ps s.hand (n - 1) 0 (suc s.top) (omega arith) (omega (arith, v.counts_within s.hand)))
       ∙ ap (λ k. classes ((s.hand, k) ∷ ps) 0 (suc s.top)) e
       ∙ sym here_order
 
 -- where a sweep from s stops
-pub record Stops (s t : CountState) : Type 0 where
+pub record StopsSweep (s t : CountState) : Type 0 where
   pub valid : CountValid t
   pub same_size : t.size ≡ s.size
   pub still_full : t.filled ≡ t.size
@@ -76,7 +76,7 @@ pub record Stops (s t : CountState) : Type 0 where
   pub at_zero : slice_index_or t.counts t.hand 0 ≡ 0
 
 -- the counts' sum falls with each step, so the fuel is enough
-sweep_stops : (fuel : ℕ) (s : CountState) → CountValid s → s.filled ≡ s.size → sum s.counts ≤ fuel → Stops s (count_sweep fuel s)
+sweep_stops : (fuel : ℕ) (s : CountState) → CountValid s → s.filled ≡ s.size → sum s.counts ≤ fuel → StopsSweep s (count_sweep fuel s)
 sweep_stops zero s v full enough = record {
   valid = v;
   same_size = refl;
@@ -91,7 +91,7 @@ sweep_stops (suc fuel) s v full enough =
           let small : n ≤ s.top = v.counts_within s.hand in
           let t : CountState = moved s (n - 1) in
           let fallen = sum_by-set (λ x. x) s.counts s.hand (n - 1) 0 (omega arith) in
-          let r : Stops t (count_sweep fuel t) = sweep_stops fuel t (moved_valid s v full (n - 1) (omega arith)) full (omega arith) in
+          let r : StopsSweep t (count_sweep fuel t) = sweep_stops fuel t (moved_valid s v full (n - 1) (omega arith)) full (omega arith) in
           rw (cond-true (nat_lt 0 n) (count_sweep fuel t) s (lt-ltb 0 n more)) (record {
             valid = r.valid;
             same_size = r.same_size;
@@ -104,7 +104,7 @@ sweep_stops (suc fuel) s v full enough =
     ]
 
 -- at most size * top steps are needed
-pub swept_stops : (s : CountState) → CountValid s → s.filled ≡ s.size → Stops s (count_sweep (s.size * s.top) s)
+pub swept_stops : (s : CountState) → CountValid s → s.filled ≡ s.size → StopsSweep s (count_sweep (s.size * s.top) s)
 swept_stops s v full =
     let most = rw v.a_count_each at (sum_by_le (λ x. x) s.top s.counts
     (All-from_get_or (λ n. n ≤ s.top) s.counts 0 (λ f _. v.counts_within f))) in

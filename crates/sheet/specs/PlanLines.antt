@@ -6,7 +6,7 @@ use Rattle.policy.specs.Machine.{start, fetches}
 use Rattle.policy.specs.Lru.{lru_rules}
 use Rattle.policy.specs.Fifo.{fifo_rules}
 use Rattle.policy.specs.Clock.{clock_rules}
-use Rattle.planning.specs.Bounds.{Bounded}
+use Rattle.planning.specs.Bounds.{ForecastHolds}
 use Rattle.planning.specs.Minimum.{min_serves}
 use Rattle.planning.specs.Plan.{Places, Planning, plan_of, plan_answer}
 use Rattle.trace.specs.declared.fault.ReplayFault.{ReplayFault}
@@ -35,13 +35,13 @@ lined touches k h p =
     result_and (plan_answer (length touches) k h (max k h) p) (Ok (record { answer = line_at touches k h; serving = min_serves h [] touches }))
 
 -- a refusal that no line of a trace is to blame for
-abbrev pub in_replay : {T : Type 0} → Result T Refusal → Result T ReplayFault
-in_replay (Ok x) = Ok x
-in_replay (Err r) = Err (replay_fault.Refused r)
+abbrev pub as_fault : {T : Type 0} → Result T Refusal → Result T ReplayFault
+as_fault (Ok x) = Ok x
+as_fault (Err r) = Err (replay_fault.Refused r)
 
 -- the same for a text, or its fault
 abbrev pub line_of : List ℕ → Lent → ℕ → ℕ → Result (Planning PlanLine) ReplayFault
-line_of text l k h = and_then (judged text l.keys) (λ touches. in_replay (lined touches k h l.lists))
+line_of text l k h = and_then (judged text l.keys) (λ touches. as_fault (lined touches k h l.lists))
 
 -- the touches that are read from a text into so many places, and none of a refused one
 abbrev pub read_from : List ℕ → ℕ → List ℕ
@@ -50,9 +50,9 @@ read_from text places = accepted (judged text places)
 -- What a line promises of its touches, with MIN's list of frames: no schedule on the smaller number has fewer fetches, and what each
 -- policy fetches keeps the bound and is at most the ceiling.
 pub record WithinCeiling (l : PlanLine) (touches frames : List ℕ) : Type 0 where
-  pub lru : Bounded l.frames l.smaller touches frames l.plan.fetches l.plan.ceiling l.lru
-  pub fifo : Bounded l.frames l.smaller touches frames l.plan.fetches l.plan.ceiling l.fifo
-  pub clock : Bounded l.frames l.smaller touches frames l.plan.fetches l.plan.ceiling l.clock
+  pub lru : ForecastHolds l.frames l.smaller touches frames l.plan.fetches l.plan.ceiling l.lru
+  pub fifo : ForecastHolds l.frames l.smaller touches frames l.plan.fetches l.plan.ceiling l.fifo
+  pub clock : ForecastHolds l.frames l.smaller touches frames l.plan.fetches l.plan.ceiling l.clock
 
 -- A line is printed as its numbers, with commas between them: the frames and the smaller number of frames, the fewest fetches and
 -- the ceiling, and what each policy fetches.

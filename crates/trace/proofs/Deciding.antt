@@ -8,7 +8,7 @@ use Rattle.trace.specs.declared.fault.Report.{Report}
 use Rattle.trace.specs.Splits.{parts}
 use Rattle.trace.specs.Numerals.{numeral}
 use Rattle.trace.specs.Accesses.{at_most, sized, opcode_of, time_stamp}
-use Rattle.trace.specs.Touches.{upward}
+use Rattle.trace.specs.Touches.{sectors_from}
 use Rattle.trace.specs.Traces.{Number, OpcodeText, TimeStamp, Line, Trace, none, last, fed, returned, Within}
 use Rattle.trace.specs.Refused.{Begins, to_end, to_feed, to_return, FiveFields, UpTo, Whole, Numbers, Wrong, FirstWrong, Refused, field_count, no_unit, no_sector, no_size, bad_size, bad_opcode, bad_time_stamp, past_last_sector, too_many_touches, here, later, trace_too_long, wrong_line, too_few_places}
 use Rattle.trace.proofs.Accepted.{ok_same}
@@ -67,7 +67,7 @@ module _ (n t : ℕ) (line : List ℕ) (f : FiveFields line) where
       | inl s ↦ elim (at_most_or_above (first + sectors) (2 ^ 32)) [
         | inr h ↦ inl (record { f = _; r = _; is = past_last_sector f m o s h })
         | inl h ↦
-            let good : Line line (upward m.unit.n first sectors) = record {
+            let good : Line line (sectors_from m.unit.n first sectors) = record {
               asu = f.asu;
               lba = f.lba;
               size = f.size;
@@ -88,7 +88,7 @@ module _ (n t : ℕ) (line : List ℕ) (f : FiveFields line) where
               last = h;
               touches_are = refl;
             } in
-            elim (at_most_or_above (t + length (upward m.unit.n first sectors)) 4096) [
+            elim (at_most_or_above (t + length (sectors_from m.unit.n first sectors)) 4096) [
               | inl few ↦ inr (record { ts = _; good = good; few = few })
               | inr many ↦ inl (record { f = _; r = _; is = too_many_touches good many })
             ]

@@ -5,7 +5,7 @@ use Rattle.trace.specs.declared.access.Access.{Access}
 use Rattle.trace.specs.declared.fault.LineFault.{LineFault}
 use Rattle.trace.specs.declared.fault.LineFault.TheVariants as line_fault
 use Rattle.trace.specs.Accesses.{and_then, access_of}
-use Rattle.trace.specs.Touches.{touches, so_far, judged_lines}
+use Rattle.trace.specs.Touches.{line_touches, so_far, judged_lines}
 use Rattle.trace.proofs.Accepted.{ok_same, then_parts, cond_parts}
 use Rattle.trace.proofs.Sectors.{length-upward}
 
@@ -18,15 +18,15 @@ added_front : (t k : ℕ) (xs : List ℕ) (r : Result (List ℕ) LineFault) → 
 added_front t k xs (Ok ts) e = rw (length-append xs ts, e, add_assoc t k (length ts))
 added_front t k xs (Err f) e = refl
 
-pub length-touches : (a : Access) → length (touches a) ≡ a.sectors
+pub length-touches : (a : Access) → length (line_touches a) ≡ a.sectors
 length-touches a = length-upward a.asu a.lba a.sectors
 
 module _ (n t : ℕ) (l : List ℕ) (ls : List (List ℕ)) where
   pub judged_more : (a : Access) → access_of n l ≡ Ok a → t + a.sectors ≤ 4096 → added t (judged_lines n t (l ∷ ls)) ≡ added (t + a.sectors) (judged_lines (n + 1) (t + a.sectors) ls)
-  judged_more a e h = rw (e, le-leb (t + a.sectors) 4096 h) (added_front t a.sectors (touches a) (judged_lines (n + 1) (t + a.sectors) ls) (length-touches a))
+  judged_more a e h = rw (e, le-leb (t + a.sectors) 4096 h) (added_front t a.sectors (line_touches a) (judged_lines (n + 1) (t + a.sectors) ls) (length-touches a))
 
   -- what an accepted first line tells
-  pub judged_parts : (ts : List ℕ) → judged_lines n t (l ∷ ls) ≡ Ok ts → (a : Access) × (access_of n l ≡ Ok a) × (t + a.sectors ≤ 4096) × ((more : List ℕ) × (judged_lines (n + 1) (t + a.sectors) ls ≡ Ok more) × (touches a ++ more ≡ ts))
+  pub judged_parts : (ts : List ℕ) → judged_lines n t (l ∷ ls) ≡ Ok ts → (a : Access) × (access_of n l ≡ Ok a) × (t + a.sectors ≤ 4096) × ((more : List ℕ) × (judged_lines (n + 1) (t + a.sectors) ls ≡ Ok more) × (line_touches a ++ more ≡ ts))
   judged_parts ts h =
       let p = then_parts (access_of n l) _ ts h in
       let a = p.0 in

@@ -8,14 +8,14 @@ abbrev pub unread : TraceReader → List ℕ
 unread t = drop t.place t.text.now
 
 -- how many lines were handed out
-abbrev pub line_of : TraceReader → ℕ
-line_of t = t.line
+abbrev pub lines_read : TraceReader → ℕ
+lines_read t = t.line
 
 -- a line is handed out: it is the first of those unread, and has the next number
 pub record Advanced (before after : TraceReader) (number : ℕ) (text : List ℕ) : Type 0 where
   pub first : lines (unread before) ≡ text ∷ lines (unread after)
-  pub next : number ≡ line_of before + 1
-  pub counted : line_of after ≡ line_of before + 1
+  pub next : number ≡ lines_read before + 1
+  pub counted : lines_read after ≡ lines_read before + 1
   pub fewer : length (unread after) < length (unread before)
 
 -- a line that loses a carriage return at its end, and nothing else

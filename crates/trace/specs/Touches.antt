@@ -12,13 +12,13 @@ use Rattle.trace.specs.Splits.{lines}
 use Rattle.trace.specs.Accesses.{and_then, access_of}
 
 -- the codes of so many sectors of a unit, upward from the first
-abbrev pub upward : ℕ → ℕ → ℕ → List ℕ
-upward asu lba zero = []
-upward asu lba (suc n) = (asu * 2 ^ 32 + lba) ∷ upward asu (lba + 1) n
+abbrev pub sectors_from : ℕ → ℕ → ℕ → List ℕ
+sectors_from asu lba zero = []
+sectors_from asu lba (suc n) = (asu * 2 ^ 32 + lba) ∷ sectors_from asu (lba + 1) n
 
 -- a line touches its sectors, whether it reads or writes
-abbrev pub touches : Access → List ℕ
-touches a = upward a.asu a.lba a.sectors
+abbrev pub line_touches : Access → List ℕ
+line_touches a = sectors_from a.asu a.lba a.sectors
 
 -- the touches up to and with line n, unless they exceed 4,096
 abbrev pub so_far : ℕ → ℕ → Result ℕ LineFault
@@ -31,7 +31,7 @@ judged_lines n t (l ∷ ls) =
     and_then (access_of n l) (λ a.
     and_then (so_far n (t + a.sectors)) (λ s.
     and_then (judged_lines (n + 1) s ls) (λ more.
-    Ok (touches a ++ more))))
+    Ok (line_touches a ++ more))))
 
 -- a line's fault is carried inside the replay's
 abbrev pub in_replay : {T : Type 0} → Result T LineFault → Result T ReplayFault

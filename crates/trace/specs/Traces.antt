@@ -6,7 +6,7 @@ use Rattle.base.specs.declared.key.volume.VolumeKey.{VolumeKey}
 use Rattle.trace.specs.declared.fault.ReplayFault.{ReplayFault}
 use Rattle.trace.specs.Splits.{comma, point, line_feed, carriage_return}
 use Rattle.trace.specs.Numerals.{value}
-use Rattle.trace.specs.Touches.{upward}
+use Rattle.trace.specs.Touches.{sectors_from}
 
 -- one to `most` decimal digits that write n
 pub record Number (most : ℕ) (bs : List ℕ) (n : ℕ) : Type 0 where
@@ -51,7 +51,7 @@ pub record Line (text touches : List ℕ) : Type 0 where
   -- the last sector touched has a number of 32 bits, and so has the first
   pub last : first + sectors ≤ 2 ^ 32
   -- the sectors upward from the first are touched
-  pub touches_are : touches ≡ upward unit first sectors
+  pub touches_are : touches ≡ sectors_from unit first sectors
 
 -- a text and its touches, line by line: the last line may lack its ending
 pub data Trace : List ℕ → List ℕ → Type 0 where

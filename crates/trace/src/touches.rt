@@ -2,7 +2,7 @@
 ghost use Rattle.std.specs.Prelude.{◌≡◌, ◌+◌, ◌^◌, ◌≤◌, true, map, length, is_ok};
 ghost use Rattle.base.specs.Keys.{volume_code};
 ghost use Rattle.trace.specs.Splits.{lines};
-ghost use Rattle.trace.specs.Touches.{touches, judged_lines, judged, counted, touches_in, Filled, Written};
+ghost use Rattle.trace.specs.Touches.{line_touches, judged_lines, judged, counted, touches_in, Filled, Written};
 ghost use Rattle.trace.specs.Traces.{Reads};
 ghost use Rattle.trace.specs.Refused.{Refuses};
 
@@ -81,7 +81,7 @@ fn write_keys(text: &[u8], keys: &mut [VolumeKey])
 fn write_touches(access: Access, places: &mut [VolumeKey])
     requires places { length places.old ≡ access.sectors }
     requires last { access.lba + access.sectors ≤ 2 ^ 32 }
-    ensures { map volume_code places.new ≡ touches access }
+    ensures { map volume_code places.new ≡ line_touches access }
 {
     for (i, key) in places.iter_mut().enumerate() {
         *key = VolumeKey::new(access.asu, access.lba + i as u32);

@@ -3,7 +3,7 @@
 #![tactic(auto)]
 
 ghost use Rattle.std.specs.Prelude.{◌≡◌, IfOk};
-ghost use Rattle.workspace.specs.Sizes.{Sized};
+ghost use Rattle.workspace.specs.Sizes.{FullSize};
 
 use base::{Key, MAX_FRAMES, MAX_TOUCHES};
 use index::Slot;
@@ -33,7 +33,7 @@ pub struct Workspace<K> {
 impl<K: Key> Workspace<K> {
     // What the lists have at first does not matter: each call writes what it reads.
     pub fn new(heap: Global) -> Result<Workspace<K>, AllocError>
-        ensures { IfOk result Sized }
+        ensures { IfOk result FullSize }
     {
         Ok(Workspace {
             slots: vec![in heap; None; SLOTS]?,

@@ -1,6 +1,7 @@
 // What is done to the places of a store.
 ghost use Rattle.std.specs.Prelude.{◌≡◌, ◌<◌, ◌≤◌, [], length};
-ghost use Rattle.cache.specs.Places.{HeldOnce, used, place_at, held, found, stored, installed, pinned_in, cleaned};
+ghost use Rattle.base.specs.Lists.{found_in};
+ghost use Rattle.cache.specs.Places.{HeldOnce, used, place_at, held, stored, installed, pinned_in, cleaned};
 
 use super::{Place, Store};
 use arrayvec::ArrayVec;
@@ -28,7 +29,7 @@ impl Store {
     pub fn find(&self, sector: u32) -> Option<usize>
         requires once { HeldOnce self.now }
         requires within { used self.now ≤ 72 }
-        ensures { result ≡ found (held self.now) sector }
+        ensures { result ≡ found_in sector (held self.now) }
     {
         self.places.iter().position(|place| place.sector == sector)
     }

@@ -1,7 +1,7 @@
 // What the joined disk does.
 ghost use Rattle.std.specs.Prelude.{◌≡◌, ℕ, ◌<◌, ◌≤◌, length};
 ghost use Rattle.disk.specs.Meaning.{answer, after_read, buffer_read, after_write};
-ghost use Rattle.disk.specs.Join.{joined, join_of, parts, parts_after, BothSound};
+ghost use Rattle.disk.specs.Join.{joined, join_of, both, parts_after, BothSound};
 
 use super::JoinedDisk;
 use crate::disk::{Disk, judge};
@@ -39,7 +39,7 @@ impl<A: Disk, B: Disk> JoinedDisk<A, B> {
         requires inside { sector < (joined A.Disk B.Disk self.old).count }
         ensures kept { BothSound A.Disk B.Disk self.new }
         ensures answers { result ≡ answer (joined A.Disk B.Disk self.old) sector (length buffer.old) }
-        ensures parts { parts A.Disk B.Disk self.new ≡ parts_after after_read (parts A.Disk B.Disk self.old) sector buffer.old }
+        ensures parts { both A.Disk B.Disk self.new ≡ parts_after after_read (both A.Disk B.Disk self.old) sector buffer.old }
         ensures tallies { self.new.tallies ≡ self.old.tallies }
         ensures fills { buffer.new ≡ buffer_read (joined A.Disk B.Disk self.old) sector buffer.old }
     {
@@ -56,7 +56,7 @@ impl<A: Disk, B: Disk> JoinedDisk<A, B> {
         requires inside { sector < (joined A.Disk B.Disk self.old).count }
         ensures kept { BothSound A.Disk B.Disk self.new }
         ensures answers { result ≡ answer (joined A.Disk B.Disk self.old) sector (length buffer.now) }
-        ensures parts { parts A.Disk B.Disk self.new ≡ parts_after after_write (parts A.Disk B.Disk self.old) sector buffer.now }
+        ensures parts { both A.Disk B.Disk self.new ≡ parts_after after_write (both A.Disk B.Disk self.old) sector buffer.now }
         ensures tallies { self.new.tallies ≡ self.old.tallies }
     {
         let first = self.first.count();
@@ -88,7 +88,7 @@ impl<A: Disk, B: Disk> Disk for JoinedDisk<A, B> {
         ensures answers { result ≡ answer (joined A.Disk B.Disk self.old) sector (length buffer.old) }
         ensures after { joined A.Disk B.Disk self.new ≡ after_read (joined A.Disk B.Disk self.old) sector buffer.old }
         ensures fills { buffer.new ≡ buffer_read (joined A.Disk B.Disk self.old) sector buffer.old }
-        ensures parts { parts A.Disk B.Disk self.new ≡ parts_after after_read (parts A.Disk B.Disk self.old) sector buffer.old }
+        ensures parts { both A.Disk B.Disk self.new ≡ parts_after after_read (both A.Disk B.Disk self.old) sector buffer.old }
     {
         judge(self.count(), sector, buffer.len())?;
         self.pass_read(sector, buffer)?;
@@ -101,7 +101,7 @@ impl<A: Disk, B: Disk> Disk for JoinedDisk<A, B> {
         ensures kept { BothSound A.Disk B.Disk self.new }
         ensures answers { result ≡ answer (joined A.Disk B.Disk self.old) sector (length buffer.now) }
         ensures after { joined A.Disk B.Disk self.new ≡ after_write (joined A.Disk B.Disk self.old) sector buffer.now }
-        ensures parts { parts A.Disk B.Disk self.new ≡ parts_after after_write (parts A.Disk B.Disk self.old) sector buffer.now }
+        ensures parts { both A.Disk B.Disk self.new ≡ parts_after after_write (both A.Disk B.Disk self.old) sector buffer.now }
     {
         judge(self.count(), sector, buffer.len())?;
         self.pass_write(sector, buffer)?;

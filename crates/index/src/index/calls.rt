@@ -2,7 +2,7 @@
 ghost use Rattle.std.specs.Prelude.{◌≡◌, length, None, Err};
 ghost use Rattle.base.specs.declared.refusal.Refusal.TheVariants.{IndexFull};
 ghost use Rattle.index.specs.Maps.{empty, put_answer, after_put, after_remove};
-ghost use Rattle.index.specs.Slots.{map_of, Sound};
+ghost use Rattle.index.specs.Slots.{map_of, SoundIndex};
 
 use super::Index;
 use super::probing::Probe;
@@ -14,7 +14,7 @@ impl<'a, K: Key> Index<'a, K> {
     // Frees every slot, whatever the table held.
     #[tactic(auto, using(crate::proofs::Updates::free_sound))]
     pub fn new(slots: &'a mut [Slot<K>]) -> Index<'a, K>
-        ensures sound { Sound K.Key.code K.Key.spread result }
+        ensures sound { SoundIndex K.Key.code K.Key.spread result }
         ensures map { map_of K.Key.code result ≡ empty (length slots.old) }
     {
         free_all(slots);
@@ -23,7 +23,7 @@ impl<'a, K: Key> Index<'a, K> {
 
     // The number stored with the key.
     pub fn find(&self, key: &K) -> Option<u32>
-        requires { Sound K.Key.code K.Key.spread self.now }
+        requires { SoundIndex K.Key.code K.Key.spread self.now }
         ensures { result ≡ (map_of K.Key.code self.now).at (K.Key.code key.now) }
     {
         match self.probe(key) {
@@ -34,8 +34,8 @@ impl<'a, K: Key> Index<'a, K> {
 
     // Stores the number with the key, in place of the one before if there is one.
     pub fn put(&mut self, key: K, number: u32) -> Result<(), Refusal>
-        requires { Sound K.Key.code K.Key.spread self.old }
-        ensures sound { Sound K.Key.code K.Key.spread self.new }
+        requires { SoundIndex K.Key.code K.Key.spread self.old }
+        ensures sound { SoundIndex K.Key.code K.Key.spread self.new }
         ensures answer { result ≡ put_answer (map_of K.Key.code self.old) (K.Key.code key) }
         ensures map { map_of K.Key.code self.new ≡ after_put (map_of K.Key.code self.old) (K.Key.code key) number }
         ensures refused { result ≡ Err IndexFull → self.new ≡ self.old }
@@ -56,8 +56,8 @@ impl<'a, K: Key> Index<'a, K> {
     // Takes the key out, and answers the number that was stored with it.
     #[tactic(auto, using(crate::proofs::Maps::remove_none))]
     pub fn remove(&mut self, key: &K) -> Option<u32>
-        requires { Sound K.Key.code K.Key.spread self.old }
-        ensures sound { Sound K.Key.code K.Key.spread self.new }
+        requires { SoundIndex K.Key.code K.Key.spread self.old }
+        ensures sound { SoundIndex K.Key.code K.Key.spread self.new }
         ensures answer { result ≡ (map_of K.Key.code self.old).at (K.Key.code key.now) }
         ensures map { map_of K.Key.code self.new ≡ after_remove (map_of K.Key.code self.old) (K.Key.code key.now) }
         ensures absent { result ≡ None → self.new ≡ self.old }

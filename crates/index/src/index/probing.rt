@@ -1,7 +1,7 @@
 // Where a key stands, and how a slot is freed. The way of a key leads from its home upward, slot by slot
 // and from the last on to the first, and ends at its own slot or at a free one.
 ghost use Rattle.std.specs.Prelude.{◌≡◌, ◌<◌, ◌≤◌, not, length};
-ghost use Rattle.index.specs.Slots.{home, Reached};
+ghost use Rattle.index.specs.Slots.{home, AllReached};
 ghost use Rattle.index.specs.Probes.{passes, Probed, Stops, StopsBetween, Vacated};
 
 use crate::ring::steps;
@@ -58,7 +58,7 @@ fn stop_of<K: Key>(slots: &[Slot<K>], key: &K) -> Option<usize>
 
 // Looks for a key: the slot that holds it, else the first free slot on its way.
 pub fn look_up<K: Key>(slots: &[Slot<K>], key: &K) -> Probe
-    requires { Reached K.Key.spread slots.now }
+    requires { AllReached K.Key.spread slots.now }
     ensures { Probed K.Key.code K.Key.spread slots.now key.now result }
 {
     if slots.is_empty() {
@@ -81,7 +81,7 @@ pub fn look_up<K: Key>(slots: &[Slot<K>], key: &K) -> Probe
 // which can be more than one round in all.
 pub fn vacate<K: Key>(slots: &mut [Slot<K>], place: usize)
     requires within { place < length slots.old }
-    requires reached { Reached K.Key.spread slots.old }
+    requires reached { AllReached K.Key.spread slots.old }
     ensures { Vacated K.Key.spread slots.old place slots.new }
 {
     let places = slots.len();

@@ -1,7 +1,7 @@
 // Plan and replay together.
 ghost use Rattle.std.specs.Prelude.{◌≡◌, ℕ, ◌<◌, ◌≤◌, false, map, length, take};
 ghost use Rattle.std.specs.Prelude.{is_ok, IfOk};
-ghost use Rattle.planning.specs.Bounds.{Competitive, Bounded};
+ghost use Rattle.planning.specs.Bounds.{Competitive, ForecastHolds};
 ghost use Rattle.planning.specs.Lists.{places, Unchanged, SameLists};
 ghost use Rattle.planning.specs.Plan.{forecasted, answer_of, serving_after};
 
@@ -28,7 +28,7 @@ where
     ensures serving { lists.new.serving.now ≡ serving_after
         (forecasted P.Policy.rules setting (map K.Key.code keys.now) frames smaller (places lists.old)) lists.old.serving.now }
     ensures bounded { IfOk result (λ f.
-        Bounded frames smaller (map K.Key.code keys.now) (take (length keys.now) lists.new.serving.now)
+        ForecastHolds frames smaller (map K.Key.code keys.now) (take (length keys.now) lists.new.serving.now)
         f.plan.fetches f.plan.ceiling f.fetches) }
     ensures competitive { Competitive P.Policy.rules }
     ensures refused { is_ok result ≡ false → Unchanged lists.old lists.new }

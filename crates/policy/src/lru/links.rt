@@ -21,12 +21,12 @@ pub struct Links {
 
 impl Links {
     ghost use Rattle.std.specs.Prelude.{◌≡◌, ◌<◌, ◌≤◌, slice_index};
-    ghost use Rattle.policy.specs.LinkedList.{alone, connected, unlinked, appended};
+    ghost use Rattle.policy.specs.LinkedList.{sentinel_alone, connected, unlinked, appended};
     ghost use Rattle.policy.specs.Links.{ring};
 
     // The sentinel alone, which comes after itself.
     pub(super) fn new() -> Links
-        ensures { ring result ≡ alone }
+        ensures { ring result ≡ sentinel_alone }
     {
         Links {
             next: [SENTINEL; PLACES],

@@ -2,7 +2,7 @@
 ghost use Rattle.std.specs.Prelude.{◌≡◌, ◌<◌, ◌≤◌, [], ◌∷◌, length, drop, MatchOption};
 ghost use Rattle.std.specs.Iterator.{at_most};
 ghost use Rattle.trace.specs.Splits.{lines};
-ghost use Rattle.trace.specs.Reading.{unread, line_of, Advanced, Stripped};
+ghost use Rattle.trace.specs.Reading.{unread, lines_read, Advanced, Stripped};
 
 use super::TraceReader;
 use crate::line::Line;
@@ -12,7 +12,7 @@ impl<'a> TraceReader<'a> {
     pub fn new(text: &'a [u8]) -> TraceReader<'a>
         requires { length text.now ≤ 32768 }
         ensures text { unread result ≡ text.now }
-        ensures line { line_of result ≡ 0 }
+        ensures line { lines_read result ≡ 0 }
     {
         TraceReader {
             text,

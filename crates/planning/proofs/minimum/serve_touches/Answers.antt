@@ -1,6 +1,6 @@
 use Rattle.std.proofs.Common.{◌≡◌, ℕ, ◌+◌, ◌<◌, ◌≤◌, List, [], ◌++◌, map, length, drop, set, sym, refl, ap, ◌∙◌, arith}
 use Rattle.std.proofs.lemmas.List.{length-map, length-set}
-use Rattle.index.specs.Slots.{map_of, number_of, slots_of, Sound}
+use Rattle.index.specs.Slots.{map_of, number_of, slots_of, SoundIndex}
 use Rattle.planning.specs.Minimum.{min_serves}
 use Rattle.planning.specs.declared.held.HeldKeys.{HeldKeys}
 use Rattle.planning.proofs.Holds.{room_shown, shows_shown}
@@ -12,8 +12,8 @@ use Rattle.planning.proofs.minimum.serve_touches.Goals.{in-Some, in-None}
 -- the state of a turn under the names that its ways share
 joined : {K : Type 0} (code spread : K → ℕ) (h : ℕ) (xs next : List ℕ) (places wide : ℕ) (before out : List ℕ) (i : ℕ)
     {x x' : HeldKeys K} {n n' t t' : ℕ} → x' ≡ x → n' ≡ n → t' ≡ t →
-    Sound code spread x.index → Serving-along h xs next x.held.now (map_of code x.index) places before (set out i t) n x.filled (i + 1) → length x.held.now ≡ wide →
-    Sound code spread x'.index × (Serving-along h xs next x'.held.now (map_of code x'.index) places before (set out i t') n' x'.filled (i + 1) × (length x'.held.now ≡ wide))
+    SoundIndex code spread x.index → Serving-along h xs next x.held.now (map_of code x.index) places before (set out i t) n x.filled (i + 1) → length x.held.now ≡ wide →
+    SoundIndex code spread x'.index × (Serving-along h xs next x'.held.now (map_of code x'.index) places before (set out i t') n' x'.filled (i + 1) × (length x'.held.now ≡ wide))
 joined code spread h xs next places wide before out i ex en et s q l = rw (ex, en, et) (s, (q, l))
 
 pub loop-place-init : goal.loop-place-init

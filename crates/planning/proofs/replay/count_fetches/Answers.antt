@@ -1,6 +1,6 @@
 use Rattle.std.proofs.Common.{◌≡◌, ℕ, ◌<◌, List, map, length, sym, refl, ap, ◌∙◌, arith}
 use Rattle.std.proofs.lemmas.List.{length-map, length-set}
-use Rattle.index.specs.Slots.{map_of, number_of, slots_of, Sound}
+use Rattle.index.specs.Slots.{map_of, number_of, slots_of, SoundIndex}
 use Rattle.policy.specs.Machine.{Rules, Machine}
 use Rattle.planning.specs.Replay.{idle}
 use Rattle.planning.specs.declared.held.HeldKeys.{HeldKeys}
@@ -13,8 +13,8 @@ use Rattle.planning.proofs.replay.count_fetches.Goals.{in-Some, in-None}
 -- the state of a turn under the names that its ways share
 joined : {K P Setting State : Type 0} (code spread : K → ℕ) (r : Rules Setting State) (m₀ : Machine State) (xs : List ℕ) (places wide i : ℕ) (model : P → State)
     {p p' : P} {x x' : HeldKeys K} {n n' : ℕ} → p' ≡ p → x' ≡ x → n' ≡ n →
-    Sound code spread x.index → Replaying r m₀ xs x.held.now (map_of code x.index) places i (model p) n x.filled → length x.held.now ≡ wide →
-    Sound code spread x'.index × (Replaying r m₀ xs x'.held.now (map_of code x'.index) places i (model p') n' x'.filled × (length x'.held.now ≡ wide))
+    SoundIndex code spread x.index → Replaying r m₀ xs x.held.now (map_of code x.index) places i (model p) n x.filled → length x.held.now ≡ wide →
+    SoundIndex code spread x'.index × (Replaying r m₀ xs x'.held.now (map_of code x'.index) places i (model p') n' x'.filled × (length x'.held.now ≡ wide))
 joined code spread r m₀ xs places wide i model ep ex en s q l = rw (ep, ex, en) (s, (q, l))
 
 pub loop-place-init : goal.loop-place-init

@@ -6,7 +6,7 @@ use Rattle.policy.specs.Machine.{Rules, start, fetches}
 use Rattle.policy.specs.Law.{Conservative}
 use Rattle.planning.specs.declared.plan.Plan.{Plan}
 use Rattle.planning.specs.declared.forecast.Forecast.{Forecast}
-use Rattle.planning.specs.Bounds.{Optimal, Bounded}
+use Rattle.planning.specs.Bounds.{Optimal, ForecastHolds}
 use Rattle.planning.specs.Minimum.{min_fetches}
 use Rattle.planning.specs.Schedules.{Demand}
 use Rattle.planning.specs.Lists.{places}
@@ -37,7 +37,7 @@ replay_by r c touches k h frames slots held lent p ef es eh =
 
 -- the bound and the ceiling, for what a plan and a replay answered
 bounded : {Setting State : Type 0} (r : Rules Setting State) → Conservative r → (c : Setting) (touches frames : List ℕ) (k h : ℕ) (p : Plan) (f : ℕ) → 1 ≤ h → h ≤ k →
-    p ≡ plan_of touches k h → f ≡ fetches r (start r c k) touches → Optimal h touches frames p.fetches → Bounded k h touches frames p.fetches p.ceiling f
+    p ≡ plan_of touches k h → f ≡ fetches r (start r c k) touches → Optimal h touches frames p.fetches → ForecastHolds k h touches frames p.fetches p.ceiling f
 bounded r law c touches frames k h p f one fits ep ef o =
     let bound : (e : ℕ) → Demand h [] touches e → (k - h + 1) * f ≤ k * e + k * (k - h + 1) = λ e d. subst (λ n. (k - h + 1) * n ≤ k * e + k * (k - h + 1)) (sym ef) (competitive r law c k h e [] touches [] one fits (omega arith) d) in
     record {
