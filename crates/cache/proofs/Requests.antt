@@ -5,7 +5,7 @@ use Rattle.base.specs.declared.refusal.Refusal.TheVariants.{BufferLength}
 use Rattle.base.specs.declared.refusal.Refusal.{Refusal}
 use Rattle.disk.specs.declared.turn.Request.{Request}
 use Rattle.disk.specs.declared.turn.Request.TheVariants.{Read, Write}
-use Rattle.disk.specs.Turns.{is_write}
+use Rattle.disk.specs.Asked.{is_write}
 use Rattle.disk.specs.Meaning.{answer, serves, read_one, written_one, after_read, buffer_read, after_write}
 use Rattle.policy.specs.Machine.{Rules}
 use Rattle.policy.specs.Shape.{Shape}

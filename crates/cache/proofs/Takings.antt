@@ -1,17 +1,14 @@
 -- The turns that a cache has taken since its start, one after another: what holds after one more, and so after all of them.
-use Rattle.std.proofs.Common.{◌≡◌, ℕ, ◌+◌, ◌<◌, ◌≤◌, min, Bool, true, false, cond, not, ◌&&◌, ◌||◌, eqb, ltb, List, [], ◌∷◌, ◌++◌, length, count_by, Ok, Result, sym, refl, ap, ◌∙◌, subst, inl, inr, append_assoc, arith}
-use mathlib.Core.Path.{fun_ext}
+use Rattle.std.proofs.Common.{◌≡◌, ℕ, ◌+◌, ◌<◌, ◌≤◌, min, Bool, true, false, cond, not, ◌&&◌, ◌||◌, ltb, List, [], ◌∷◌, ◌++◌, length, Ok, Result, sym, refl, ap, ◌∙◌, subst, inl, inr, append_assoc, arith}
 use Rattle.std.proofs.lemmas.Bool.{cases_Bool, true≢false}
-use Rattle.std.proofs.lemmas.List.{append-nil}
-use Rattle.std.proofs.lemmas.List.Sums.{sum_by_push}
+use Rattle.std.proofs.lemmas.List.{append-nil, map-append}
 use Rattle.base.specs.declared.refusal.Refusal.{Refusal}
 use Rattle.base.specs.Lists.{member}
 use Rattle.disk.specs.declared.turn.Request.{Request}
 use Rattle.disk.specs.declared.turn.Request.TheVariants.{Read, Write, Flush}
-use Rattle.disk.specs.Meaning.{Meaning, answer, serves, raised, after_read, buffer_read, after_write, largest_tally}
-use Rattle.disk.specs.Turns.{is_read, is_write, answer_request}
-use Rattle.disk.specs.Turn.{after_request, buffer_request}
-use Rattle.disk.proofs.Turns.{request_after}
+use Rattle.disk.specs.Meaning.{Meaning, unserved, answer, serves, raised, after_read, buffer_read, after_write, largest_tally}
+use Rattle.disk.specs.Asked.{Asked, is_read, is_write, answer_asked, after_asked, buffer_asked, buffer_after}
+use Rattle.disk.proofs.Turns.{all_push, buffer_all}
 use Rattle.policy.specs.Machine.{Rules, Machine, start, touch, touched, fetches}
 use Rattle.policy.specs.Machines.{touched_append, fetches_append}
 use Rattle.cache.specs.Places.{used, place_at, pins, framed}
@@ -19,7 +16,8 @@ use Rattle.cache.specs.View.{View, seen, machine}
 use Rattle.cache.specs.Steps.{next_place}
 use Rattle.cache.specs.Requests.{Turned, misses, fetched_below}
 use Rattle.cache.specs.Flush.{Flushed}
-use Rattle.cache.specs.Events.{Event, Each, Took, AsAlone, Serves, Served, nothing, reads, reads_writes, accesses, bytes_after, alone_after, latest_write, read_accepted, write_accepted, touch_of, touches_of, cache_after}
+use Rattle.cache.specs.Events.{Event, Each, Took, AsAlone, Serves, Served, nothing, reads, reads_writes, accesses}
+use Rattle.cache.specs.Events.{all_asked, alone_after, touch_of, touches_of, cache_after}
 use Rattle.cache.specs.Promise.{Origin, Begun, Taken, FetchesCounted, alone, touches, machine_fetches}
 
 module _ {State : Type 0} where
@@ -34,44 +32,31 @@ module _ {State : Type 0} where
   after_push v [] e = refl
   after_push v (x ∷ es) e = after_push x.cache es e
 
--- a tally with one more, or none
-cut_more : (c : Bool) (n : ℕ) → cond c (raised (min n largest_tally)) (min n largest_tally) ≡ min (n + cond {A = ℕ} c 1 0) largest_tally
-cut_more true n = omega arith
-cut_more false n = omega arith
+-- what was asked, with one turn more
+pub asked_push : {State : Type 0} (es : List (Event State)) (e : Event State) → all_asked (es ++ (e ∷ [])) ≡ all_asked es ++ (e.asked ∷ [])
+asked_push {State} es e = map-append (λ (d : Event State). d.asked) es (e ∷ [])
+
+touches_push : (m : Meaning) (pinned : List ℕ) (past : List Asked) (a : Asked) →
+    touches_of m pinned (past ++ (a ∷ [])) ≡ touches_of m pinned past ++ touch_of m pinned a
+touches_push m pinned [] a = append-nil (touch_of m pinned a)
+touches_push m pinned (b ∷ past) a =
+    ap (λ ts. touch_of m pinned b ++ ts) (touches_push m pinned past a) ∙ sym (append_assoc (touch_of m pinned b) _ _)
 
 module _ {State : Type 0} (m : Meaning) where
-  latest_push : (es : List (Event State)) (e : Event State) (first : List ℕ) (y : ℕ) →
-      latest_write m first y (es ++ (e ∷ [])) ≡ cond (write_accepted m e && eqb y e.sector) e.before (latest_write m first y es)
-  latest_push [] e first y = refl
-  latest_push (x ∷ es) e first y = latest_push es e _ y
-
-  touches_push : (pinned : List ℕ) (es : List (Event State)) (e : Event State) → touches_of m pinned (es ++ (e ∷ [])) ≡ touches_of m pinned es ++ touch_of m pinned e
-  touches_push pinned [] e = append-nil (touch_of m pinned e)
-  touches_push pinned (x ∷ es) e = ap (λ ts. touch_of m pinned x ++ ts) (touches_push pinned es e) ∙ sym (append_assoc (touch_of m pinned x) _ _)
-
   -- the disk alone after one turn more
-  pub alone_push : (es : List (Event State)) (e : Event State) → alone_after m (es ++ (e ∷ [])) ≡ after_request e.request (alone_after m es) e.sector e.before
-  alone_push es e =
-      let bytes : bytes_after m (es ++ (e ∷ [])) ≡ (λ y. cond (write_accepted m e && eqb y e.sector) e.before (bytes_after m es y)) =
-      fun_ext (λ y. latest_push es e (m.bytes y) y) in
-      let reads = cut_more (read_accepted m e) (count_by (read_accepted m) es) in
-      let writes = cut_more (write_accepted m e) (count_by (write_accepted m) es) in
-      rw (bytes, sum_by_push (λ d. cond (read_accepted m d) 1 0) es e, sum_by_push (λ d. cond (write_accepted m d) 1 0) es e, ← reads, ← writes)
-      (sym (request_after (alone_after m es) e.request e.sector e.before))
+  pub alone_push : (es : List (Event State)) (e : Event State) → alone_after m (es ++ (e ∷ [])) ≡ after_asked (alone_after m es) e.asked
+  alone_push es e = rw (asked_push es e) (all_push (unserved m) (omega arith, omega arith) (all_asked es) e.asked)
 
   -- the buffer that it gives back
-  buffer_alone : (es : List (Event State)) (q : Request) (x : ℕ) (b : List ℕ) →
-      buffer_request q (alone_after m es) x b ≡ cond (is_read q && serves m x (length b)) (bytes_after m es x) b
-  buffer_alone es Read x b = refl
-  buffer_alone es Write x b = refl
-  buffer_alone es Flush x b = refl
+  buffer_alone : (es : List (Event State)) (a : Asked) → buffer_asked (alone_after m es) a ≡ buffer_after m (all_asked es) a
+  buffer_alone es a = buffer_all (unserved m) (all_asked es) a
 
   pub as_alone : (es : List (Event State)) (v : View State) (e : Event State) → seen v ≡ alone_after m es →
-      e.answer ≡ answer_request e.request (answer (seen v) e.sector (length e.before)) → e.after ≡ buffer_request e.request (seen v) e.sector e.before →
-      (e.request ≡ Flush → e.cache.below.bytes ≡ (seen v).bytes) → AsAlone m es e
+      e.answer ≡ answer_asked (seen v) e.asked → e.after ≡ buffer_asked (seen v) e.asked →
+      (e.asked.request ≡ Flush → e.cache.below.bytes ≡ (seen v).bytes) → AsAlone m es e
   as_alone es v e shows answers fills flushed = record {
-    answers = answers ∙ ap (λ n. answer_request e.request (answer n e.sector (length e.before))) shows;
-    bytes = fills ∙ ap (λ n. buffer_request e.request n e.sector e.before) shows ∙ buffer_alone es e.request e.sector e.before;
+    answers = answers ∙ ap (λ n. answer_asked n e.asked) shows;
+    bytes = fills ∙ ap (λ n. buffer_asked n e.asked) shows ∙ buffer_alone es e.asked;
     flushed = λ q. flushed q ∙ ap (λ (n : Meaning). n.bytes) shows;
   }
 
@@ -129,8 +114,8 @@ module _ {Setting State : Type 0} (r : Rules Setting State) where
 
   serves_of : (v : View State) (e : Event State) → Took r v e → Serves v e
   serves_of v e k = record {
-    few = λ a. served_turn v (misses r v e.sector (length e.before)) e.cache.below (k.turned a).below;
-    idle = λ a low room. idle_turn v (misses r v e.sector (length e.before)) e.cache.below v.fetched e.cache.fetched (k.turned a).below (k.turned a).counts low room;
+    few = λ a. served_turn v (misses r v e.asked.sector (length e.asked.buffer)) e.cache.below (k.turned a).below;
+    idle = λ a low room. idle_turn v (misses r v e.asked.sector (length e.asked.buffer)) e.cache.below v.fetched e.cache.fetched (k.turned a).below (k.turned a).counts low room;
     flush_reads = λ f. (k.flushed f).reads;
     flush_writes = λ f. (k.flushed f).writes;
   }
@@ -182,13 +167,13 @@ module _ {Setting State : Type 0} (r : Rules Setting State) where
     facts_more : (es : List (Event State)) (v : View State) (e : Event State) → v ≡ cache_after o.cache es → Facts es v → Took r v e → Facts (es ++ (e ∷ [])) e.cache
     facts_more es v e is f k =
         let m = alone o in
-        let x = e.sector in
-        let len = length e.before in
+        let x = e.asked.sector in
+        let len = length e.asked.buffer in
         let n₀ = start r o.setting o.frames in
         let serve : serves (seen v) x len ≡ serves m x len = ap (λ n. serves n x len) f.shows in
-        let c = rw (serve, f.pinned) at (costs v e.cache x len e.request k.turned k.flushed) in
-        let b = touching e.request (serves m x len) (member x (pins o.cache.store)) in
-        let more = touches_push m (pins o.cache.store) es e in
+        let c = rw (serve, f.pinned) at (costs v e.cache x len e.asked.request k.turned k.flushed) in
+        let b = touching e.asked.request (serves m x len) (member x (pins o.cache.store)) in
+        let more = ap (touches_of m (pins o.cache.store)) (asked_push es e) ∙ touches_push m (pins o.cache.store) (all_asked es) e.asked in
         let low = count_more n₀ (machine v) (touches o es) b x f.frames 0 v.fetched e.cache.fetched (let q = f.counts in omega arith) c.counts in
         let counts : e.cache.fetched ≡ min (machine_fetches r o (es ++ (e ∷ []))) largest_tally = rw more (omega (arith, low)) in
         record {
@@ -223,7 +208,7 @@ module _ {Setting State : Type 0} (r : Rules Setting State) where
 
   -- the event of a turn with the cache that it leaves
   abbrev event : Request → ℕ → List ℕ → List ℕ → Result (Unit {0}) Refusal → View State → Event State
-  event q x b b' a v' = record { request = q; sector = x; before = b; after = b'; answer = a; cache = v' }
+  event q x b b' a v' = record { asked = record { request = q; sector = x; buffer = b }; after = b'; answer = a; cache = v' }
 
   -- a read, a write and a flush, as turns that a cache took
   module _ (v v' : View State) (x : ℕ) (b : List ℕ) where

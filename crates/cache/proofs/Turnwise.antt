@@ -1,23 +1,22 @@
 -- A list of turns, one after another.
-use Rattle.std.proofs.Common.{◌≡◌, ℕ, ◌+◌, ◌<◌, ◌≤◌, Bool, cond, List, [], ◌∷◌, ◌++◌, length, count_by, get_or, take, drop, set, Some, sym, refl, ap, ◌∙◌, subst, zero-add, arith}
-use mathlib.Core.Path.{fun_ext}
-use Rattle.std.proofs.lemmas.List.Sums.{sum_by-cons}
+use Rattle.std.proofs.Common.{◌≡◌, ℕ, ◌+◌, ◌<◌, ◌≤◌, List, [], ◌∷◌, ◌++◌, map, length, get_or, take, drop, set, Some, refl, ap, ◌∙◌, subst, arith}
 use Rattle.std.proofs.lemmas.List.{take_more, take_more_set, drop_more, drop-set-lt, length-set, take_all}
 use Rattle.disk.specs.declared.turn.Turn.{Turn}
 use Rattle.disk.specs.declared.disk.Disk as disks
 use Rattle.policy.specs.declared.policy.Policy as policies
 use Rattle.cache.specs.declared.cache.Cache.{Cache}
-use Rattle.disk.specs.Meaning.{Meaning}
-use Rattle.disk.specs.Turns.{latest, reads_in, writes_in, Answered, AllAnswered, after_turns}
-use Rattle.cache.specs.Events.{Event, Each, AsAlone, latest_write, bytes_after, alone_after, read_accepted, write_accepted}
+use Rattle.disk.specs.Meaning.{Meaning, unserved}
+use Rattle.disk.specs.Asked.{answer_asked, buffer_after, after_all}
+use Rattle.disk.specs.Turns.{asked_in, Answered, AllAnswered}
+use Rattle.cache.specs.Events.{Event, Each, AsAlone, all_asked}
 use Rattle.cache.specs.Promise.{Origin, Taken}
 use Rattle.cache.specs.Reading.{view}
 use Rattle.cache.specs.declared.set_up.SetUpCache.{SetUpCache}
 use Rattle.policy.specs.Law.{Conservative}
 use Rattle.cache.specs.SetUp.{Begins, origin}
 use Rattle.cache.specs.Promise.{alone}
-use Rattle.cache.specs.Runs.{Report, unserved, TakesTurn, TakesTurns, TakesOne, none, more, Runs}
-use Rattle.cache.proofs.Takings.{taken_push}
+use Rattle.cache.specs.Runs.{Report, TakesTurn, TakesTurns, TakesOne, none, more, Runs}
+use Rattle.cache.proofs.Takings.{asked_push, taken_push}
 use Rattle.cache.proofs.Promises.{promise_of}
 use Rattle.std.proofs.Common.{append_assoc}
 use Rattle.std.proofs.lemmas.List.{append-nil}
@@ -28,45 +27,28 @@ data Reported {State : Type 0} : List Turn → List Turn → List (Event State) 
   next : {t t' : Turn} {e : Event State} {ts ts' : List Turn} {es : List (Event State)} → Report t t' e → Reported ts ts' es →
       Reported (t ∷ ts) (t' ∷ ts') (e ∷ es)
 
-reported_push : {State : Type 0} {ts ts' : List Turn} {es : List (Event State)} {t t' : Turn} {e : Event State} → Reported ts ts' es → Report t t' e → Reported (ts ++ (t ∷ [])) (ts' ++ (t' ∷ [])) (es ++ (e ∷ []))
-reported_push done q = next q done
-reported_push (next p rest) q = next p (reported_push rest q)
+-- what was asked in them
+reported_asked : {State : Type 0} {ts ts' : List Turn} {es : List (Event State)} → Reported ts ts' es → all_asked es ≡ map asked_in ts
+reported_asked done = refl
+reported_asked (next k rest) = rw (k.asked, reported_asked rest)
 
 -- turns whose events are those of the disk alone are answered as it answers them
 module _ {State : Type 0} (m : Meaning) where
-  latest_same : {us us' : List Turn} {es : List (Event State)} → Reported us us' es → (first : List ℕ) (x : ℕ) → latest m first x us ≡ latest_write m first x es
-  latest_same done first x = refl
-  latest_same (next q rest) first x = rw (q.asked, q.of, q.before) (latest_same rest _ x)
+  answered : {t t' : Turn} {e : Event State} (past : List (Event State)) → Report t t' e → AsAlone m past e → Answered m (all_asked past) t t'
+  answered past k a = record {
+    task = k.back.task;
+    request = k.back.request;
+    sector = k.back.sector;
+    bytes_are = k.back.bytes_are ∙ a.bytes ∙ ap (buffer_after m (all_asked past)) k.asked;
+    answers = k.back.answers ∙ ap Some (a.answers ∙ ap (answer_asked m) k.asked);
+  }
 
-  answered : {us us' : List Turn} {past : List (Event State)} {t t' : Turn} {e : Event State} → Reported us us' past → Report t t' e → AsAlone m past e → Answered m us t t'
-  answered {t = t} p q a =
-      let l = latest_same p (m.bytes t.sector) t.sector in
-      record {
-        task = q.task;
-        request = q.request;
-        sector = q.sector;
-        bytes = q.after ∙ a.bytes ∙ rw (q.asked, q.of, q.before, ← l);
-        answers = q.answer ∙ ap Some (a.answers ∙ rw (q.asked, q.of, q.before));
-      }
-
-  all_alone : {us us' ts ts' : List Turn} {past es : List (Event State)} → Reported us us' past → Reported ts ts' es → Each (AsAlone m) past es → AllAnswered m us ts ts'
-  all_alone p done a = tt
-  all_alone {us = us} {us' = us'} {past = past} p (next {t = t} {t' = t'} {e = e} {ts = ts} {ts' = ts'} {es = es} q rest) a =
-      (answered p q a.0, all_alone {us = us ++ (t ∷ [])} {us' = us' ++ (t' ∷ [])} (reported_push p q) rest a.1)
-
-  -- and the disk alone is after the turns what it is after the events
-  counted_same : {ts ts' : List Turn} {es : List (Event State)} (p : Turn → Bool) (q : Event State → Bool) →
-      ((t t' : Turn) (e : Event State) → Report t t' e → p t ≡ q e) → Reported ts ts' es → count_by p ts ≡ count_by q es
-  counted_same p q same done = refl
-  counted_same p q same (next {t = t} {t' = t'} {e = e} {ts = ts} {ts' = ts'} {es = es} k rest) =
-      sum_by-cons (λ s. cond (p s) 1 0) t ts ∙ rw (same t t' e k, counted_same p q same rest) (sym (sum_by-cons (λ s. cond (q s) 1 0) e es))
-
-  alone_turns : {ts ts' : List Turn} {es : List (Event State)} → Reported ts ts' es → alone_after m es ≡ after_turns (unserved m) ts
-  alone_turns {ts = ts} {es = es} k =
-      let bytes : bytes_after m es ≡ (λ x. latest m (m.bytes x) x ts) = fun_ext (λ x. sym (latest_same k (m.bytes x) x)) in
-      let reads : count_by (reads_in m) ts ≡ count_by (read_accepted m) es = counted_same (reads_in m) (read_accepted m) (λ t t' e q. rw (q.asked, q.of, q.before)) k in
-      let writes : count_by (writes_in m) ts ≡ count_by (write_accepted m) es = counted_same (writes_in m) (write_accepted m) (λ t t' e q. rw (q.asked, q.of, q.before)) k in
-      rw (bytes, reads, writes, zero-add (count_by (read_accepted m) es), zero-add (count_by (write_accepted m) es))
+  all_alone : {ts ts' : List Turn} {es : List (Event State)} (past : List (Event State)) → Reported ts ts' es →
+      Each (AsAlone m) past es → AllAnswered m (all_asked past) ts ts'
+  all_alone past done a = tt
+  all_alone past (next {t = t} {t' = t'} {e = e} {ts = ts} {ts' = ts'} {es = es} k rest) a =
+      let more : all_asked (past ++ (e ∷ [])) ≡ all_asked past ++ (asked_in t ∷ []) = rw (asked_push past e, k.asked) in
+      (answered past k a.0, rw more at (all_alone (past ++ (e ∷ [])) rest a.1))
 
 module _ {D P Setting : Type 0} (d : disks.Ghosts D) (p : policies.Ghosts P Setting) where
   reported : {c c' : Cache D P} {ts ts' : List Turn} {es : List (Event p.State)} → TakesTurns d p c ts ts' es c' → Reported ts ts' es
@@ -92,8 +74,8 @@ module _ {D P Setting : Type 0} (d : disks.Ghosts D) (p : policies.Ghosts P Sett
           begins = b;
           events = es;
           turns = k;
-          alone = all_alone (alone o) done (reported k) promise.answers;
-          shows = promise.shows ∙ alone_turns (alone o) (reported k);
+          alone = all_alone (alone o) [] (reported k) promise.answers;
+          shows = promise.shows ∙ ap (after_all (unserved (alone o))) (reported_asked (reported k));
           taken = t;
           promise = promise;
         };

@@ -1,25 +1,27 @@
 -- Turns that a cache has taken, and what the disk alone would have done with them. Assumes nothing.
-use Rattle.std.specs.Prelude.{◌≡◌, ℕ, ◌<◌, ◌≤◌, min, Bool, true, cond, not, ◌&&◌, ◌||◌, List, [], ◌∷◌, ◌++◌, length, count_by, Result, ◌==◌}
+use Rattle.std.specs.Prelude.{◌≡◌, ℕ, ◌<◌, ◌≤◌, Bool, true, cond, not, ◌&&◌, ◌||◌, List, [], ◌∷◌, ◌++◌, map, length, Result}
 use Rattle.base.specs.declared.refusal.Refusal.{Refusal}
 use Rattle.base.specs.Lists.{member}
 use Rattle.disk.specs.declared.turn.Request.{Request}
 use Rattle.disk.specs.declared.turn.Request.TheVariants.{Flush}
-use Rattle.disk.specs.Meaning.{Meaning, answer, serves, read_one, written_one, largest_tally}
-use Rattle.disk.specs.Turns.{is_read, is_write, answer_request}
-use Rattle.disk.specs.Turn.{after_request, buffer_request}
+use Rattle.disk.specs.Meaning.{Meaning, unserved, read_one, written_one, largest_tally}
+use Rattle.disk.specs.Asked.{Asked, is_read, is_write, answer_asked, after_asked, buffer_asked}
+use Rattle.disk.specs.Asked.{reads_in, writes_in, bytes_after, buffer_after, after_all}
 use Rattle.policy.specs.Machine.{Rules}
 use Rattle.cache.specs.View.{View, seen}
 use Rattle.cache.specs.Requests.{Turned}
 use Rattle.cache.specs.Flush.{Flushed, dirty_counted}
 
--- One turn: what was asked, the buffer before and after it, and the answer; then the cache as it was after it.
+-- One turn: what was asked, the buffer after it, and the answer; then the cache as it was after it.
 pub record Event (State : Type 0) : Type 0 where
-  pub request : Request
-  pub sector : ℕ
-  pub before : List ℕ
+  pub asked : Asked
   pub after : List ℕ
   pub answer : Result (Unit {0}) Refusal
   pub cache : View State
+
+-- what was asked in some turns
+abbrev pub all_asked : {State : Type 0} → List (Event State) → List Asked
+all_asked {State} es = map (λ (e : Event State). e.asked) es
 
 -- whether a turn reads or writes a sector
 abbrev pub accesses : Request → Bool
@@ -38,51 +40,32 @@ cache_after v (e ∷ es) = cache_after e.cache es
 
 -- A turn that a cache v takes, as each of its calls promises it: what the disk that the cache shows does with it, and what it costs.
 pub record Took {Setting State : Type 0} (r : Rules Setting State) (v : View State) (e : Event State) : Type 0 where
-  pub answers : e.answer ≡ answer_request e.request (answer (seen v) e.sector (length e.before))
-  pub fills : e.after ≡ buffer_request e.request (seen v) e.sector e.before
-  pub shows : seen e.cache ≡ after_request e.request (seen v) e.sector e.before
-  pub turned : accesses e.request ≡ true → Turned r e.request v e.sector (length e.before) e.cache
-  pub flushed : e.request ≡ Flush → Flushed v e.cache
+  pub answers : e.answer ≡ answer_asked (seen v) e.asked
+  pub fills : e.after ≡ buffer_asked (seen v) e.asked
+  pub shows : seen e.cache ≡ after_asked (seen v) e.asked
+  pub turned : accesses e.asked.request ≡ true → Turned r e.asked.request v e.asked.sector (length e.asked.buffer) e.cache
+  pub flushed : e.asked.request ≡ Flush → Flushed v e.cache
 
 -- the disk m alone, as it was at the start
 module _ {State : Type 0} (m : Meaning) where
-  -- whether the disk alone accepts a turn's read, or its write
-  abbrev pub read_accepted : Event State → Bool
-  read_accepted e = is_read e.request && serves m e.sector (length e.before)
-
-  abbrev pub write_accepted : Event State → Bool
-  write_accepted e = is_write e.request && serves m e.sector (length e.before)
-
-  -- the bytes of a sector after some turns: those of its last accepted write, or those at the start
-  abbrev pub latest_write : List ℕ → ℕ → List (Event State) → List ℕ
-  latest_write start x [] = start
-  latest_write start x (e ∷ es) = latest_write (cond (write_accepted e && x == e.sector) e.before start) x es
-
-  abbrev pub bytes_after : List (Event State) → ℕ → List ℕ
-  bytes_after es x = latest_write (m.bytes x) x es
-
   -- the disk alone after some turns, with its tallies from the start on: the accepted reads and writes, each cut at the largest value
   abbrev pub alone_after : List (Event State) → Meaning
-  alone_after es = record m {
-    bytes = bytes_after es;
-    reads = min (count_by read_accepted es) largest_tally;
-    writes = min (count_by write_accepted es) largest_tally;
-  }
+  alone_after es = after_all (unserved m) (all_asked es)
 
   -- A turn after others is that of the disk alone: its answer, and the buffer, which only an accepted read changes; after a flush
   -- the disk below holds what the disk alone would hold.
   pub record AsAlone (past : List (Event State)) (e : Event State) : Type 0 where
-    pub answers : e.answer ≡ answer_request e.request (answer m e.sector (length e.before))
-    pub bytes : e.after ≡ cond (read_accepted e) (bytes_after past e.sector) e.before
-    pub flushed : e.request ≡ Flush → e.cache.below.bytes ≡ bytes_after past
+    pub answers : e.answer ≡ answer_asked m e.asked
+    pub bytes : e.after ≡ buffer_after m (all_asked past) e.asked
+    pub flushed : e.asked.request ≡ Flush → e.cache.below.bytes ≡ bytes_after m (all_asked past)
 
-  -- the touches of some turns: the sectors of the accepted reads and writes of sectors that are not pinned
-  abbrev pub touch_of : List ℕ → Event State → List ℕ
-  touch_of pinned e = cond ((read_accepted e || write_accepted e) && not (member e.sector pinned)) (e.sector ∷ []) []
+-- the touches of what was asked: the sectors of the reads and writes that m accepts, of sectors that are not pinned
+abbrev pub touch_of : Meaning → List ℕ → Asked → List ℕ
+touch_of m pinned a = cond ((reads_in m a || writes_in m a) && not (member a.sector pinned)) (a.sector ∷ []) []
 
-  abbrev pub touches_of : List ℕ → List (Event State) → List ℕ
-  touches_of pinned [] = []
-  touches_of pinned (e ∷ es) = touch_of pinned e ++ touches_of pinned es
+abbrev pub touches_of : Meaning → List ℕ → List Asked → List ℕ
+touches_of m pinned [] = []
+touches_of m pinned (a ∷ more) = touch_of m pinned a ++ touches_of m pinned more
 
 -- Served m m': a disk m that serves at most one read and then at most one write is m'.
 pub data Served (m : Meaning) : Meaning → Type 0 where
@@ -93,7 +76,7 @@ pub data Served (m : Meaning) : Meaning → Type 0 where
 -- What the disk below serves in a turn of a cache v. A read or write turn: at most one read and one write, and nothing at all unless F
 -- rises or stands at its largest value. A flush: no read, and one write for each dirty sector.
 pub record Serves {State : Type 0} (v : View State) (e : Event State) : Type 0 where
-  pub few : accesses e.request ≡ true → Served v.below e.cache.below
-  pub idle : accesses e.request ≡ true → e.cache.fetched ≤ v.fetched → v.fetched < largest_tally → e.cache.below ≡ v.below
-  pub flush_reads : e.request ≡ Flush → e.cache.below.reads ≡ v.below.reads
-  pub flush_writes : e.request ≡ Flush → e.cache.below.writes ≡ dirty_counted v
+  pub few : accesses e.asked.request ≡ true → Served v.below e.cache.below
+  pub idle : accesses e.asked.request ≡ true → e.cache.fetched ≤ v.fetched → v.fetched < largest_tally → e.cache.below ≡ v.below
+  pub flush_reads : e.asked.request ≡ Flush → e.cache.below.reads ≡ v.below.reads
+  pub flush_writes : e.asked.request ≡ Flush → e.cache.below.writes ≡ dirty_counted v

@@ -9,7 +9,7 @@ use Rattle.planning.specs.Replay.{most_touches}
 use Rattle.planning.specs.Plan.{Places, enough, Planning, planned, ceiling}
 use Rattle.cache.specs.Places.{pins, dirty, framed}
 use Rattle.cache.specs.View.{View, seen}
-use Rattle.cache.specs.Events.{Event, Each, Took, AsAlone, Serves, alone_after, touches_of, cache_after}
+use Rattle.cache.specs.Events.{Event, Each, Took, AsAlone, Serves, alone_after, all_asked, touches_of, cache_after}
 
 -- What a cache was started with: the cache itself as it then was, the number of frames, and the policy's setting.
 pub record Origin (Setting State : Type 0) : Type 0 where
@@ -33,7 +33,7 @@ module _ {Setting State : Type 0} (o : Origin Setting State) where
 
   -- the touches of some turns
   abbrev pub touches : List (Event State) → List ℕ
-  touches es = touches_of alone (pins o.cache.store) es
+  touches es = touches_of alone (pins o.cache.store) (all_asked es)
 
 module _ {Setting State : Type 0} (r : Rules Setting State) (o : Origin Setting State) where
   -- A cache at its start: 1 to 64 frames, none of them filled, the policy in its first state, nothing dirty or served, and F at 0.

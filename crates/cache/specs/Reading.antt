@@ -29,9 +29,7 @@ module _ {D P Setting : Type 0} (d : disks.Ghosts D) (p : policies.Ghosts P Sett
   abbrev pub Takes : Cache D P → Request → ℕ → List ℕ → List ℕ → Result (Unit {0}) Refusal → Cache D P → Type 0
   Takes c request x b b' answer c' = (o : Origin Setting p.State) (es : List (Event p.State)) → Taken p.rules o es (view c) →
       Taken p.rules o (es ++ (record {
-        request = request;
-        sector = x;
-        before = b;
+        asked = record { request = request; sector = x; buffer = b };
         after = b';
         answer = answer;
         cache = view c';

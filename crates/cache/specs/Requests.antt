@@ -2,7 +2,7 @@
 use Rattle.std.specs.Prelude.{◌≡◌, ℕ, Bool, false, cond, not, ◌&&◌, ◌||◌, ◌==◌, nat_lt}
 use Rattle.disk.specs.declared.turn.Request.{Request}
 use Rattle.disk.specs.Meaning.{Meaning, raised, serves, read_one, written_one}
-use Rattle.disk.specs.Turns.{is_write}
+use Rattle.disk.specs.Asked.{is_write}
 use Rattle.base.specs.Lists.{member}
 use Rattle.policy.specs.Machine.{Rules, touch}
 use Rattle.cache.specs.Places.{used, place_at, pins, framed, is_dirty}

@@ -1,8 +1,8 @@
 -- A run of turns, from the start of a cache on. Assumes nothing.
-use Rattle.std.specs.Prelude.{◌≡◌, List, [], ◌∷◌, Some, vec_items}
+use Rattle.std.specs.Prelude.{◌≡◌, List, [], ◌∷◌}
 use Rattle.disk.specs.declared.turn.Turn.{Turn}
-use Rattle.disk.specs.Meaning.{Meaning}
-use Rattle.disk.specs.Turns.{AllAnswered, after_turns}
+use Rattle.disk.specs.Meaning.{unserved}
+use Rattle.disk.specs.Turns.{asked_in, GivenBack, AllAnswered, after_turns}
 use Rattle.disk.specs.declared.disk.Disk as disks
 use Rattle.policy.specs.declared.policy.Policy as policies
 use Rattle.cache.specs.declared.set_up.SetUpCache.{SetUpCache}
@@ -13,20 +13,10 @@ use Rattle.cache.specs.View.{seen}
 use Rattle.cache.specs.Reading.{view}
 use Rattle.cache.specs.SetUp.{FirstState, Begins, origin}
 
--- a turn as it was given, as it is once taken, and the event that it was
+-- a turn as it was given, as it is given back, and the event that it was
 pub record Report {State : Type 0} (t t' : Turn) (e : Event State) : Type 0 where
-  pub task : t'.task ≡ t.task
-  pub request : t'.request ≡ t.request
-  pub sector : t'.sector ≡ t.sector
-  pub asked : e.request ≡ t.request
-  pub of : e.sector ≡ t.sector
-  pub before : e.before ≡ vec_items t.buffer
-  pub after : vec_items t'.buffer ≡ e.after
-  pub answer : t'.answer ≡ Some e.answer
-
--- a disk with its tallies at 0
-abbrev pub unserved : Meaning → Meaning
-unserved m = record m { reads = 0; writes = 0 }
+  pub asked : e.asked ≡ asked_in t
+  pub back : GivenBack t t' e.answer e.after
 
 module _ {D P Setting : Type 0} (d : disks.Ghosts D) (p : policies.Ghosts P Setting) where
   -- one turn taken by a cache c, which then is c', as its call promises it, and the event that it was

@@ -1,5 +1,5 @@
 pub mod Meaning
 pub mod Image
 pub mod Join
+pub mod Asked
 pub mod Turns
-pub mod Turn

@@ -57,6 +57,10 @@ buffer_read m sector buffer = cond (serves m sector (length buffer)) (m.bytes se
 abbrev pub after_write : Meaning → ℕ → List ℕ → Meaning
 after_write m sector buffer = cond (serves m sector (length buffer)) (written_one m sector buffer) m
 
+-- a disk with its tallies at 0
+abbrev pub unserved : Meaning → Meaning
+unserved m = record m { reads = 0; writes = 0 }
+
 -- every sector of a disk has 512 bytes
 abbrev pub Sized : Meaning → Type 0
 Sized m = (x : ℕ) → x < m.count → length (m.bytes x) ≡ 512

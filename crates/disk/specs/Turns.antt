@@ -1,65 +1,46 @@
--- Lists of turns, as a disk alone serves them. Assumes nothing.
-use Rattle.std.specs.Prelude.{◌≡◌, ℕ, ◌+◌, min, Bool, true, false, cond, ◌&&◌, ◌==◌, List, [], ◌∷◌, ◌++◌, length, count_by}
-use Rattle.std.specs.Prelude.{Some, Ok, Result, vec_items}
+-- Turns of tasks, as a disk alone takes them. Assumes nothing.
+use Rattle.std.specs.Prelude.{◌≡◌, ℕ, List, [], ◌∷◌, ◌++◌, map, Some, Result, vec_items, codes}
 use Rattle.base.specs.declared.refusal.Refusal.{Refusal}
 use Rattle.disk.specs.declared.turn.Request.{Request}
 use Rattle.disk.specs.declared.turn.Request.TheVariants.{Read, Write, Flush}
 use Rattle.disk.specs.declared.turn.Turn.{Turn}
-use Rattle.disk.specs.Meaning.{Meaning, answer, serves, largest_tally}
+use Rattle.disk.specs.Meaning.{Meaning}
+use Rattle.disk.specs.Asked.{Asked, answer_asked, buffer_asked, buffer_after, after_all}
 
-abbrev pub is_read : Request → Bool
-is_read Read = true
-is_read Write = false
-is_read Flush = false
+-- the word that a request is printed as
+abbrev pub shown_request : Request → List ℕ
+shown_request Read = codes "read"
+shown_request Write = codes "write"
+shown_request Flush = codes "flush"
 
-abbrev pub is_write : Request → Bool
-is_write Read = false
-is_write Write = true
-is_write Flush = false
+-- what a turn asks
+abbrev pub asked_in : Turn → Asked
+asked_in t = record { request = t.request; sector = t.sector; buffer = vec_items t.buffer }
 
--- what a request is answered: a disk alone has nothing to flush
-abbrev pub answer_request : Request → Result (Unit {0}) Refusal → Result (Unit {0}) Refusal
-answer_request Read r = r
-answer_request Write r = r
-answer_request Flush r = Ok tt
+-- a turn as it was given, and as it is given back: with its answer, and these bytes in its buffer
+pub record GivenBack (t t' : Turn) (answer : Result (Unit {0}) Refusal) (bytes : List ℕ) : Type 0 where
+  pub task : t'.task ≡ t.task
+  pub request : t'.request ≡ t.request
+  pub sector : t'.sector ≡ t.sector
+  pub bytes_are : vec_items t'.buffer ≡ bytes
+  pub answers : t'.answer ≡ Some answer
 
 module _ (m : Meaning) where
-  -- what a turn is answered
-  abbrev pub answer_turn : Turn → Result (Unit {0}) Refusal
-  answer_turn t = answer_request t.request (answer m t.sector (length (vec_items t.buffer)))
+  -- a turn that the disk has taken
+  abbrev pub Done : Turn → Turn → Type 0
+  Done t t' = GivenBack t t' (answer_asked m (asked_in t)) (buffer_asked m (asked_in t))
 
-  -- whether a turn is an accepted read, or an accepted write
-  abbrev pub reads_in : Turn → Bool
-  reads_in t = is_read t.request && serves m t.sector (length (vec_items t.buffer))
-
-  abbrev pub writes_in : Turn → Bool
-  writes_in t = is_write t.request && serves m t.sector (length (vec_items t.buffer))
-
-  -- the bytes of the last accepted write of a sector in a list of turns; `start` where there is none
-  abbrev pub latest : List ℕ → ℕ → List Turn → List ℕ
-  latest start x [] = start
-  latest start x (t ∷ ts) = latest (cond (writes_in t && x == t.sector) (vec_items t.buffer) start) x ts
-
-  -- A turn before and after it was taken, when the turns in `past` had been taken: an accepted read has the bytes of the last
-  -- accepted write of its sector, or those at the start; every other buffer is as it was.
-  pub record Answered (past : List Turn) (t t' : Turn) : Type 0 where
-    pub task : t'.task ≡ t.task
-    pub request : t'.request ≡ t.request
-    pub sector : t'.sector ≡ t.sector
-    pub bytes : vec_items t'.buffer ≡ cond (reads_in t) (latest (m.bytes t.sector) t.sector past) (vec_items t.buffer)
-    pub answers : t'.answer ≡ Some (answer_turn t)
+  -- a turn that it has taken after others: an accepted read has the bytes of the last accepted write of its sector, or those at the start
+  abbrev pub Answered : List Asked → Turn → Turn → Type 0
+  Answered past t t' = GivenBack t t' (answer_asked m (asked_in t)) (buffer_after m past (asked_in t))
 
   -- every turn of a list, one after another
-  abbrev pub AllAnswered : List Turn → List Turn → List Turn → Type 0
+  abbrev pub AllAnswered : List Asked → List Turn → List Turn → Type 0
   AllAnswered past [] [] = Unit {0}
   AllAnswered past [] (t' ∷ ts') = ⊥
   AllAnswered past (t ∷ ts) [] = ⊥
-  AllAnswered past (t ∷ ts) (t' ∷ ts') = Answered past t t' × AllAnswered (past ++ (t ∷ [])) ts ts'
+  AllAnswered past (t ∷ ts) (t' ∷ ts') = Answered past t t' × AllAnswered (past ++ (asked_in t ∷ [])) ts ts'
 
-  -- the disk after the turns: each sector has the bytes of its last accepted write, and the tallies count the accepted calls
+  -- the disk after the turns
   abbrev pub after_turns : List Turn → Meaning
-  after_turns ts = record m {
-    bytes = λ x. latest (m.bytes x) x ts;
-    reads = min (m.reads + count_by reads_in ts) largest_tally;
-    writes = min (m.writes + count_by writes_in ts) largest_tally;
-  }
+  after_turns ts = after_all m (map asked_in ts)

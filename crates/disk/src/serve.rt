@@ -1,8 +1,8 @@
 // Lists of turns, served by a disk of any kind.
 ghost use Rattle.std.specs.Prelude.{◌≡◌, [], length};
 ghost use Rattle.disk.specs.Meaning.{Tallied};
-ghost use Rattle.disk.specs.Turns.{AllAnswered, after_turns};
-ghost use Rattle.disk.specs.Turn.{Done, after_turn};
+ghost use Rattle.disk.specs.Asked.{after_asked};
+ghost use Rattle.disk.specs.Turns.{asked_in, Done, AllAnswered, after_turns};
 
 use crate::disk::Disk;
 use crate::tallies::Tallies;
@@ -13,7 +13,7 @@ fn take_turn<D: Disk>(disk: &mut D, turn: &mut Turn)
     requires { D.Disk.sound disk.old }
     ensures kept { D.Disk.sound disk.new }
     ensures done { Done (D.Disk.meaning disk.old) turn.old turn.new }
-    ensures after { D.Disk.meaning disk.new ≡ after_turn (D.Disk.meaning disk.old) turn.old }
+    ensures after { D.Disk.meaning disk.new ≡ after_asked (D.Disk.meaning disk.old) (asked_in turn.old) }
 {
     match turn.request {
         Request::Read => turn.answer = Some(disk.read(turn.sector, &mut turn.buffer)),

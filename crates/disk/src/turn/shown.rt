@@ -1,6 +1,6 @@
 // How a request is printed.
 ghost use Rattle.std.specs.Prelude.{Some};
-ghost use Rattle.disk.specs.Turn.{shown_request};
+ghost use Rattle.disk.specs.Turns.{shown_request};
 
 use super::Request;
 use std::fmt;

@@ -12,17 +12,11 @@ returns-in-Read-clause-takes g c =
     let ws = c.read_sector.new.buffer in
     let long : length ws ≡ vec_len t.buffer = search rules in
     record {
-      event = record { request = Read; sector = t.sector; before = c.deref_mut.result.now; after = ws; answer = c.read_sector.result; cache = view g.D.Disk g.P.Policy q };
+      event = record { asked = record { request = Read; sector = t.sector; buffer = c.deref_mut.result.now }; after = ws; answer = c.read_sector.result; cache = view g.D.Disk g.P.Policy q };
       taken = record {
         report = record {
-          task = refl;
-          request = refl;
-          sector = refl;
-          asked = sym c.in-Read.is;
-          of = refl;
-          before = c.deref_mut.ensures.value;
-          after = with_items_is t.buffer ws long;
-          answer = refl;
+          asked = rw (c.in-Read.is, c.deref_mut.ensures.value);
+          back = record { task = refl; request = refl; sector = refl; bytes_are = with_items_is t.buffer ws long; answers = refl };
         };
         leaves = refl;
         took = read_took g.P.Policy.rules _ _ _ _ _ _ c.read_sector.ensures.answers c.read_sector.ensures.turned c.read_sector.ensures.fills c.read_sector.ensures.after;
@@ -35,17 +29,11 @@ returns-in-Write-clause-takes g c =
     let q = c.write_sector.new.self in
     let bs = c.deref.result.now in
     record {
-      event = record { request = Write; sector = t.sector; before = bs; after = bs; answer = c.write_sector.result; cache = view g.D.Disk g.P.Policy q };
+      event = record { asked = record { request = Write; sector = t.sector; buffer = bs }; after = bs; answer = c.write_sector.result; cache = view g.D.Disk g.P.Policy q };
       taken = record {
         report = record {
-          task = refl;
-          request = refl;
-          sector = refl;
-          asked = sym c.in-Write.is;
-          of = refl;
-          before = c.deref.ensures.value;
-          after = sym c.deref.ensures.value;
-          answer = refl;
+          asked = rw (c.in-Write.is, c.deref.ensures.value);
+          back = record { task = refl; request = refl; sector = refl; bytes_are = sym c.deref.ensures.value; answers = refl };
         };
         leaves = refl;
         took = write_took g.P.Policy.rules _ _ _ _ _ c.write_sector.ensures.answers c.write_sector.ensures.turned c.write_sector.ensures.after;
@@ -58,9 +46,12 @@ returns-in-Flush-clause-takes g c =
     let q = c.flush.new.self in
     let bs = vec_items t.buffer in
     record {
-      event = record { request = Flush; sector = t.sector; before = bs; after = bs; answer = Ok tt; cache = view g.D.Disk g.P.Policy q };
+      event = record { asked = record { request = Flush; sector = t.sector; buffer = bs }; after = bs; answer = Ok tt; cache = view g.D.Disk g.P.Policy q };
       taken = record {
-        report = record { task = refl; request = refl; sector = refl; asked = sym c.in-Flush.is; of = refl; before = refl; after = refl; answer = refl };
+        report = record {
+          asked = rw c.in-Flush.is;
+          back = record { task = refl; request = refl; sector = refl; bytes_are = refl; answers = refl };
+        };
         leaves = refl;
         took = flush_took g.P.Policy.rules _ _ t.sector bs c.flush.ensures.flushed;
       };

@@ -16,7 +16,7 @@ returns-in-Read g c =
         task = refl;
         request = refl;
         sector = refl;
-        bytes = read_bytes m t bs is same _ long c.read.ensures.fills;
+        bytes_are = read_bytes m t bs is same _ long c.read.ensures.fills;
         answers = ap Some (read_answers m t bs is same _ c.read.ensures.answers);
       };
       after = read_after m t bs is same _ c.read.ensures.after;

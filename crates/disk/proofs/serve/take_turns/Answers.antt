@@ -1,6 +1,7 @@
-use Rattle.std.proofs.Common.{◌^◌, ◌<◌, ◌≤◌, length, refl, ap, ◌∙◌, arith}
-use Rattle.disk.specs.Meaning.{Meaning}
-use Rattle.disk.proofs.Turns.{running_more, running_all, along, along_is}
+use Rattle.std.proofs.Common.{◌<◌, ◌≤◌, map, length, refl, ◌∙◌, subst, arith}
+use Rattle.disk.specs.Meaning.{Tallied}
+use Rattle.disk.specs.Turns.{asked_in}
+use Rattle.disk.proofs.Turns.{running_more, running_all, along_is}
 use Rattle.disk.proofs.serve.take_turns.Goals as goal
 
 pub loop-turn-init : goal.loop-turn-init
@@ -22,8 +23,5 @@ returns g c =
     record {
       kept = c.loop-turn.invariant.0;
       answers = q.0;
-      after = λ bounded.
-          let r : (along m us).reads < 2 ^ 64 = omega (arith, bounded.0, ap (λ (n : Meaning). n.reads) q.1) in
-          let w : (along m us).writes < 2 ^ 64 = omega (arith, bounded.1, ap (λ (n : Meaning). n.writes) q.1) in
-          q.1 ∙ along_is m us r w;
+      after = λ bounded. q.1 ∙ along_is m (map asked_in us) (subst Tallied q.1 bounded);
     }
