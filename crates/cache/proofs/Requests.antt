@@ -59,13 +59,13 @@ module _ {Setting State : Type 0} (r : Rules Setting State) (v : View State) (x 
   }
 
 -- A request for x with a buffer b of 512 bytes, to a cache v that a touch makes w.
-pub record Asked {Setting State : Type 0} (r : Rules Setting State) (v w : View State) (x : ℕ) (b : List ℕ) : Type 0 where
+pub record AfterTouch {Setting State : Type 0} (r : Rules Setting State) (v w : View State) (x : ℕ) (b : List ℕ) : Type 0 where
   pub shape : Shape r
   pub sound : Sound r v
   pub long : length b ≡ 512
   pub is : w ≡ touched_view r v x
 
-module _ {Setting State : Type 0} {r : Rules Setting State} {v w : View State} {x : ℕ} {b : List ℕ} (q : Asked r v w x b) where
+module _ {Setting State : Type 0} {r : Rules Setting State} {v w : View State} {x : ℕ} {b : List ℕ} (q : AfterTouch r v w x b) where
   -- what the touch did
   pub touched_is : Touched r q.shape v w x
   touched_is = rw q.is (touched_facts r q.shape v x q.sound)

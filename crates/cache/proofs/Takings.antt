@@ -6,6 +6,10 @@ use Rattle.base.specs.declared.refusal.Refusal.{Refusal}
 use Rattle.base.specs.Lists.{member}
 use Rattle.disk.specs.declared.turn.Request.{Request}
 use Rattle.disk.specs.declared.turn.Request.TheVariants.{Read, Write, Flush}
+use Rattle.disk.specs.declared.disk.Disk as disks
+use Rattle.policy.specs.declared.policy.Policy as policies
+use Rattle.cache.specs.declared.cache.Cache.{Cache}
+use Rattle.cache.specs.Reading.{view, event, Takes}
 use Rattle.disk.specs.Meaning.{Meaning, unserved, answer, serves, raised, after_read, buffer_read, after_write, largest_tally}
 use Rattle.disk.specs.Asked.{Asked, is_read, is_write, answer_asked, after_asked, buffer_asked, buffer_after}
 use Rattle.disk.proofs.Turns.{all_push, buffer_all}
@@ -206,34 +210,25 @@ module _ {Setting State : Type 0} (r : Rules Setting State) where
       last = sym (after_push o.cache es e);
     }
 
-  -- the event of a turn with the cache that it leaves
-  abbrev event : Request → ℕ → List ℕ → List ℕ → Result (Unit {0}) Refusal → View State → Event State
-  event q x b b' a v' = record { asked = record { request = q; sector = x; buffer = b }; after = b'; answer = a; cache = v' }
+module _ {D P Setting : Type 0} (d : disks.Ghosts D) (p : policies.Ghosts P Setting) where
+  -- a turn that a cache took stands behind those taken before
+  pub takes_of : (c c' : Cache D P) (q : Request) (x : ℕ) (b b' : List ℕ) (a : Result (Unit {0}) Refusal) →
+      Took p.rules (view d p c) (event d p q x b b' a c') → Takes d p c q x b b' a c'
+  takes_of c c' q x b b' a k = record { took = k; taken = λ o es t. taken_push p.rules o es (view d p c) (event d p q x b b' a c') t k }
 
-  -- a read, a write and a flush, as turns that a cache took
-  module _ (v v' : View State) (x : ℕ) (b : List ℕ) where
-    pub read_took : (a : Result (Unit {0}) Refusal) (b' : List ℕ) → a ≡ answer (seen v) x (length b) → Turned r Read v x (length b) v' →
-        b' ≡ buffer_read (seen v) x b → seen v' ≡ after_read (seen v) x b → Took r v (event Read x b b' a v')
-    read_took a b' answers turned fills after =
-        record { answers = answers; fills = fills; shows = after; turned = λ _. turned; flushed = λ q. absurd (true≢false (ap accesses q)) }
+  -- a read, a write and a flush
+  module _ (c c' : Cache D P) (x : ℕ) (b : List ℕ) where
+    pub read_takes : (a : Result (Unit {0}) Refusal) (b' : List ℕ) → a ≡ answer (seen (view d p c)) x (length b) →
+        Turned p.rules Read (view d p c) x (length b) (view d p c') → b' ≡ buffer_read (seen (view d p c)) x b →
+        seen (view d p c') ≡ after_read (seen (view d p c)) x b → Takes d p c Read x b b' a c'
+    read_takes a b' answers turned fills after =
+        takes_of c c' Read x b b' a (record { answers = answers; fills = fills; shows = after; turned = λ _. turned; flushed = λ q. absurd (true≢false (ap accesses q)) })
 
-    pub write_took : (a : Result (Unit {0}) Refusal) → a ≡ answer (seen v) x (length b) → Turned r Write v x (length b) v' → seen v' ≡ after_write (seen v) x b →
-        Took r v (event Write x b b a v')
-    write_took a answers turned after =
-        record { answers = answers; fills = refl; shows = after; turned = λ _. turned; flushed = λ q. absurd (true≢false (ap accesses q)) }
+    pub write_takes : (a : Result (Unit {0}) Refusal) → a ≡ answer (seen (view d p c)) x (length b) →
+        Turned p.rules Write (view d p c) x (length b) (view d p c') → seen (view d p c') ≡ after_write (seen (view d p c)) x b →
+        Takes d p c Write x b b a c'
+    write_takes a answers turned after =
+        takes_of c c' Write x b b a (record { answers = answers; fills = refl; shows = after; turned = λ _. turned; flushed = λ q. absurd (true≢false (ap accesses q)) })
 
-    pub flush_took : Flushed v v' → Took r v (event Flush x b b (Ok tt) v')
-    flush_took f = record { answers = refl; fills = refl; shows = f.shows; turned = λ q. absurd (true≢false (sym q)); flushed = λ _. f }
-
-    -- and behind those taken before
-    pub read_taken : (a : Result (Unit {0}) Refusal) (b' : List ℕ) → a ≡ answer (seen v) x (length b) → Turned r Read v x (length b) v' →
-        b' ≡ buffer_read (seen v) x b → seen v' ≡ after_read (seen v) x b →
-        (o : Origin Setting State) (es : List (Event State)) → Taken r o es v → Taken r o (es ++ (event Read x b b' a v' ∷ [])) v'
-    read_taken a b' answers turned fills after o es t = taken_push o es v (event Read x b b' a v') t (read_took a b' answers turned fills after)
-
-    pub write_taken : (a : Result (Unit {0}) Refusal) → a ≡ answer (seen v) x (length b) → Turned r Write v x (length b) v' → seen v' ≡ after_write (seen v) x b →
-        (o : Origin Setting State) (es : List (Event State)) → Taken r o es v → Taken r o (es ++ (event Write x b b a v' ∷ [])) v'
-    write_taken a answers turned after o es t = taken_push o es v (event Write x b b a v') t (write_took a answers turned after)
-
-    pub flush_taken : Flushed v v' → (o : Origin Setting State) (es : List (Event State)) → Taken r o es v → Taken r o (es ++ (event Flush x b b (Ok tt) v' ∷ [])) v'
-    flush_taken f o es t = taken_push o es v (event Flush x b b (Ok tt) v') t (flush_took f)
+    pub flush_takes : Flushed (view d p c) (view d p c') → Takes d p c Flush x b b (Ok tt) c'
+    flush_takes f = takes_of c c' Flush x b b (Ok tt) (record { answers = refl; fills = refl; shows = f.shows; turned = λ q. absurd (true≢false (sym q)); flushed = λ _. f })

@@ -27,11 +27,6 @@ impl<D: Disk, P: Policy> Disk for Cache<D, P> {
     fn read(&mut self, sector: u32, buffer: &mut [u8]) -> Result<(), Refusal>
         requires { Safe D.Disk P.Policy self.old }
         ensures kept { Safe D.Disk P.Policy self.new }
-        ensures answers { result ≡ answer (seen (view D.Disk P.Policy self.old)) sector (length buffer.old) }
-        ensures after { seen (view D.Disk P.Policy self.new) ≡ after_read (seen (view D.Disk P.Policy self.old)) sector buffer.old }
-        ensures fills { buffer.new ≡ buffer_read (seen (view D.Disk P.Policy self.old)) sector buffer.old }
-        ensures turned { Turned P.Policy.rules Read (view D.Disk P.Policy self.old) sector (length buffer.old)
-            (view D.Disk P.Policy self.new) }
         ensures takes { Takes D.Disk P.Policy self.old Read sector buffer.old buffer.new result self.new }
     {
         self.read_sector(sector, buffer)
@@ -40,10 +35,6 @@ impl<D: Disk, P: Policy> Disk for Cache<D, P> {
     fn write(&mut self, sector: u32, buffer: &[u8]) -> Result<(), Refusal>
         requires { Safe D.Disk P.Policy self.old }
         ensures kept { Safe D.Disk P.Policy self.new }
-        ensures answers { result ≡ answer (seen (view D.Disk P.Policy self.old)) sector (length buffer.now) }
-        ensures after { seen (view D.Disk P.Policy self.new) ≡ after_write (seen (view D.Disk P.Policy self.old)) sector buffer.now }
-        ensures turned { Turned P.Policy.rules Write (view D.Disk P.Policy self.old) sector (length buffer.now)
-            (view D.Disk P.Policy self.new) }
         ensures takes { Takes D.Disk P.Policy self.old Write sector buffer.now buffer.now result self.new }
     {
         self.write_sector(sector, buffer)

@@ -1,7 +1,7 @@
 use Rattle.std.proofs.Common.{◌≡◌, ◌<◌, arith}
 use Rattle.cache.specs.Places.{used}
 use Rattle.cache.specs.Reading.{view}
-use Rattle.cache.proofs.Takings.{flush_taken}
+use Rattle.cache.proofs.Takings.{flush_takes}
 use Rattle.cache.proofs.Flushes.{Flushing, flushing_at, flushed_is}
 use Rattle.cache.proofs.cache.Cache.flush.Goals as goal
 
@@ -30,5 +30,5 @@ returns g c =
     record {
       kept = record { under = c.loop-place.invariant.0; own = q.sound };
       flushed = f;
-      takes = λ x b. flush_taken r v w x b f;
+      takes = λ x b. flush_takes g.D.Disk g.P.Policy _ _ x b f;
     }

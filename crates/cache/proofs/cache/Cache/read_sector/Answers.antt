@@ -2,25 +2,27 @@ use Rattle.disk.specs.declared.turn.Request.TheVariants.{Read}
 use Rattle.std.proofs.Common.{Err, is_ok, sym, refl, ap, ◌∙◌, arith}
 use Rattle.std.proofs.lemmas.Result.{err_from_is_err_and}
 use Rattle.cache.specs.Reading.{view}
-use Rattle.cache.proofs.Takings.{read_taken}
-use Rattle.cache.proofs.Requests.{Asked, touched_is, short_answer, short_turned, refused_answer, refused_read, refused_fills, refused_turned, accepted_answer, accepted_at, read_sound, read_after, read_fills, read_turned}
+use Rattle.cache.proofs.Takings.{read_takes}
+use Rattle.cache.proofs.Requests.{AfterTouch, touched_is, short_answer, short_turned, refused_answer, refused_read, refused_fills, refused_turned, accepted_answer, accepted_at, read_sound, read_after, read_fills, read_turned}
 use Rattle.cache.proofs.cache.Cache.read_sector.Given as given
 use Rattle.cache.proofs.cache.Cache.read_sector.Goals as goal
 use Rattle.cache.proofs.cache.Cache.read_sector.Goals.{After-touch}
 
 -- the request, once the touch has returned
-asked : (g : given.Over) (c : After-touch g) → Asked g.P.Policy.rules (view g.D.Disk g.P.Policy c.args.self.now) (view g.D.Disk g.P.Policy c.touch.new.self) c.args.sector c.args.buffer.now
+asked : (g : given.Over) (c : After-touch g) → AfterTouch g.P.Policy.rules (view g.D.Disk g.P.Policy c.args.self.now) (view g.D.Disk g.P.Policy c.touch.new.self) c.args.sector c.args.buffer.now
 asked g c = record
     { shape = g.met.P.Policy.shape; sound = c.requires.own; long = omega arith; is = c.touch.ensures.after }
 
 pub returns-then-buffer-ne-SECTOR_BYTES-clause-takes : goal.returns-then-buffer-ne-SECTOR_BYTES-clause-takes
 returns-then-buffer-ne-SECTOR_BYTES-clause-takes g c =
     let r = g.P.Policy.rules in
-    let v = view g.D.Disk g.P.Policy c.args.self.now in
+    let k = c.args.self.now in
+    let v = view g.D.Disk g.P.Policy k in
     let x = c.args.sector in
     let b = c.args.buffer.now in
     let answers = short_answer r v x b c.if-buffer-ne-SECTOR_BYTES.true in
-    read_taken r v v x b _ b answers (short_turned r v x b c.if-buffer-ne-SECTOR_BYTES.true Read) (refused_fills v v x b refl _ answers) (refused_read v v x b refl _ answers)
+    read_takes g.D.Disk g.P.Policy k k x b _ b answers (short_turned r v x b c.if-buffer-ne-SECTOR_BYTES.true Read)
+    (refused_fills v v x b refl _ answers) (refused_read v v x b refl _ answers)
 
 pub returns-in_err-place : goal.returns-in_err-place
 returns-in_err-place g c =
@@ -40,7 +42,7 @@ returns-in_err-place g c =
       after = after;
       fills = fills;
       turned = done;
-      takes = read_taken g.P.Policy.rules _ _ _ _ _ _ answers done fills after;
+      takes = read_takes g.D.Disk g.P.Policy _ _ _ _ _ _ answers done fills after;
     }
 
 pub serve_read-requires : goal.serve_read-requires
@@ -66,5 +68,5 @@ returns g c =
       after = after;
       fills = fills;
       turned = done;
-      takes = read_taken g.P.Policy.rules _ _ _ _ _ _ answers done fills after;
+      takes = read_takes g.D.Disk g.P.Policy _ _ _ _ _ _ answers done fills after;
     }

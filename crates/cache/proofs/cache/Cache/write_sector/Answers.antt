@@ -2,25 +2,27 @@ use Rattle.disk.specs.declared.turn.Request.TheVariants.{Write}
 use Rattle.std.proofs.Common.{Err, is_ok, sym, refl, ap, ◌∙◌, arith}
 use Rattle.std.proofs.lemmas.Result.{err_from_is_err_and}
 use Rattle.cache.specs.Reading.{view}
-use Rattle.cache.proofs.Takings.{write_taken}
-use Rattle.cache.proofs.Requests.{Asked, touched_is, short_answer, short_turned, refused_answer, refused_write, refused_turned, accepted_answer, accepted_at, write_sound, write_after, write_turned}
+use Rattle.cache.proofs.Takings.{write_takes}
+use Rattle.cache.proofs.Requests.{AfterTouch, touched_is, short_answer, short_turned, refused_answer, refused_write, refused_turned, accepted_answer, accepted_at, write_sound, write_after, write_turned}
 use Rattle.cache.proofs.cache.Cache.write_sector.Given as given
 use Rattle.cache.proofs.cache.Cache.write_sector.Goals as goal
 use Rattle.cache.proofs.cache.Cache.write_sector.Goals.{After-touch}
 
 -- the request, once the touch has returned
-asked : (g : given.Over) (c : After-touch g) → Asked g.P.Policy.rules (view g.D.Disk g.P.Policy c.args.self.now) (view g.D.Disk g.P.Policy c.touch.new.self) c.args.sector c.args.buffer.now
+asked : (g : given.Over) (c : After-touch g) → AfterTouch g.P.Policy.rules (view g.D.Disk g.P.Policy c.args.self.now) (view g.D.Disk g.P.Policy c.touch.new.self) c.args.sector c.args.buffer.now
 asked g c = record
     { shape = g.met.P.Policy.shape; sound = c.requires.own; long = omega arith; is = c.touch.ensures.after }
 
 pub returns-then-buffer-ne-SECTOR_BYTES-clause-takes : goal.returns-then-buffer-ne-SECTOR_BYTES-clause-takes
 returns-then-buffer-ne-SECTOR_BYTES-clause-takes g c =
     let r = g.P.Policy.rules in
-    let v = view g.D.Disk g.P.Policy c.args.self.now in
+    let k = c.args.self.now in
+    let v = view g.D.Disk g.P.Policy k in
     let x = c.args.sector in
     let b = c.args.buffer.now in
     let answers = short_answer r v x b c.if-buffer-ne-SECTOR_BYTES.true in
-    write_taken r v v x b _ answers (short_turned r v x b c.if-buffer-ne-SECTOR_BYTES.true Write) (refused_write v v x b refl _ answers)
+    write_takes g.D.Disk g.P.Policy k k x b _ answers (short_turned r v x b c.if-buffer-ne-SECTOR_BYTES.true Write)
+    (refused_write v v x b refl _ answers)
 
 pub returns-in_err-place : goal.returns-in_err-place
 returns-in_err-place g c =
@@ -37,7 +39,7 @@ returns-in_err-place g c =
       answers = answers;
       after = after;
       turned = done;
-      takes = write_taken g.P.Policy.rules _ _ _ _ _ answers done after;
+      takes = write_takes g.D.Disk g.P.Policy _ _ _ _ _ answers done after;
     }
 
 pub serve_write-requires : goal.serve_write-requires
@@ -61,5 +63,5 @@ returns g c =
       answers = answers;
       after = after;
       turned = done;
-      takes = write_taken g.P.Policy.rules _ _ _ _ _ answers done after;
+      takes = write_takes g.D.Disk g.P.Policy _ _ _ _ _ answers done after;
     }
