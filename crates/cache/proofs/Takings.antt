@@ -10,7 +10,7 @@ use Rattle.disk.specs.declared.disk.Disk as disks
 use Rattle.policy.specs.declared.policy.Policy as policies
 use Rattle.cache.specs.declared.cache.Cache.{Cache}
 use Rattle.cache.specs.Reading.{view, event, Takes}
-use Rattle.disk.specs.Meaning.{Meaning, unserved, answer, serves, raised, after_read, buffer_read, after_write, largest_tally}
+use Rattle.disk.specs.Meaning.{Meaning, unserved, serves, raised, largest_tally}
 use Rattle.disk.specs.Asked.{Asked, is_read, is_write, answer_asked, after_asked, buffer_asked, buffer_after}
 use Rattle.disk.proofs.Turns.{all_push, buffer_all}
 use Rattle.policy.specs.Machine.{Rules, Machine, start, touch, touched, fetches}
@@ -216,19 +216,11 @@ module _ {D P Setting : Type 0} (d : disks.Ghosts D) (p : policies.Ghosts P Sett
       Took p.rules (view d p c) (event d p q x b b' a c') → Takes d p c q x b b' a c'
   takes_of c c' q x b b' a k = record { took = k; taken = λ o es t. taken_push p.rules o es (view d p c) (event d p q x b b' a c') t k }
 
-  -- a read, a write and a flush
-  module _ (c c' : Cache D P) (x : ℕ) (b : List ℕ) where
-    pub read_takes : (a : Result (Unit {0}) Refusal) (b' : List ℕ) → a ≡ answer (seen (view d p c)) x (length b) →
-        Turned p.rules Read (view d p c) x (length b) (view d p c') → b' ≡ buffer_read (seen (view d p c)) x b →
-        seen (view d p c') ≡ after_read (seen (view d p c)) x b → Takes d p c Read x b b' a c'
-    read_takes a b' answers turned fills after =
-        takes_of c c' Read x b b' a (record { answers = answers; fills = fills; shows = after; turned = λ _. turned; flushed = λ q. absurd (true≢false (ap accesses q)) })
-
-    pub write_takes : (a : Result (Unit {0}) Refusal) → a ≡ answer (seen (view d p c)) x (length b) →
-        Turned p.rules Write (view d p c) x (length b) (view d p c') → seen (view d p c') ≡ after_write (seen (view d p c)) x b →
-        Takes d p c Write x b b a c'
-    write_takes a answers turned after =
-        takes_of c c' Write x b b a (record { answers = answers; fills = refl; shows = after; turned = λ _. turned; flushed = λ q. absurd (true≢false (ap accesses q)) })
-
-    pub flush_takes : Flushed (view d p c) (view d p c') → Takes d p c Flush x b b (Ok tt) c'
-    flush_takes f = takes_of c c' Flush x b b (Ok tt) (record { answers = refl; fills = refl; shows = f.shows; turned = λ q. absurd (true≢false (sym q)); flushed = λ _. f })
+  pub flush_takes : (c c' : Cache D P) (x : ℕ) (b : List ℕ) → Flushed (view d p c) (view d p c') → Takes d p c Flush x b b (Ok tt) c'
+  flush_takes c c' x b f = takes_of c c' Flush x b b (Ok tt) (record {
+    answers = refl;
+    fills = refl;
+    shows = f.shows;
+    turned = λ q. absurd (true≢false (sym q));
+    flushed = λ _. f;
+  })

@@ -57,6 +57,10 @@ module _ {Setting State : Type 0} (r : Rules Setting State) where
   touched_view v x = cond (member x (held v.store)) (used_view v (place_in x (held v.store)))
       (cond (serves v.below x 512) (fetched_view v x) v)
 
+  -- a request with a buffer of so many bytes: an access where it is served, and nothing where it is refused
+  abbrev pub judged_view : View State → ℕ → ℕ → View State
+  judged_view v x len = cond (serves v.below x len) (touched_view v x) v
+
 -- an answer that names a place where it accepts
 abbrev pub with_place : Result (Unit {0}) Refusal → ℕ → Result ℕ Refusal
 with_place (Ok u) p = Ok p

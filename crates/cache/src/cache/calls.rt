@@ -11,7 +11,7 @@ ghost use Rattle.cache.specs.Reading.{view, Safe, Takes, Promised};
 use super::Cache;
 use crate::slip::EndingSlip;
 use crate::store::Store;
-use base::{Refusal, SECTOR_BYTES};
+use base::Refusal;
 use disk::{Disk, Tallies};
 use policy::Policy;
 
@@ -39,10 +39,7 @@ impl<D: Disk, P: Policy> Cache<D, P> {
             (view D.Disk P.Policy self.new) }
         ensures takes { Takes D.Disk P.Policy self.old Read sector buffer.old buffer.new result self.new }
     {
-        if buffer.len() != SECTOR_BYTES {
-            return Err(Refusal::BufferLength);
-        }
-        let place = self.touch(sector)?;
+        let place = self.place_for(sector, buffer.len())?;
         self.serve_read(place, buffer);
         Ok(())
     }
@@ -56,10 +53,7 @@ impl<D: Disk, P: Policy> Cache<D, P> {
             (view D.Disk P.Policy self.new) }
         ensures takes { Takes D.Disk P.Policy self.old Write sector buffer.now buffer.now result self.new }
     {
-        if buffer.len() != SECTOR_BYTES {
-            return Err(Refusal::BufferLength);
-        }
-        let place = self.touch(sector)?;
+        let place = self.place_for(sector, buffer.len())?;
         self.serve_write(place, buffer);
         Ok(())
     }

@@ -2,7 +2,8 @@
 ghost use Rattle.std.specs.Prelude.{◌≡◌, ℕ, ◌<◌, ◌≤◌, true, false, length, if◌then◌else◌};
 ghost use Rattle.disk.specs.Meaning.{answer, serves};
 ghost use Rattle.cache.specs.Places.{used, place_at};
-ghost use Rattle.cache.specs.Steps.{read_view, write_view, backed_view, fetched_view, touched_view, used_frame, next_place, place_of, with_place};
+ghost use Rattle.cache.specs.Steps.{read_view, write_view, backed_view, fetched_view, touched_view, judged_view};
+ghost use Rattle.cache.specs.Steps.{used_frame, next_place, place_of, with_place};
 ghost use Rattle.cache.specs.Reading.{view, Safe};
 
 use super::Cache;
@@ -51,7 +52,7 @@ impl<D: Disk, P: Policy> Cache<D, P> {
     }
 
     // Finds a sector's place, or fetches the sector into one. A pinned sector is no touch of the frames.
-    pub(crate) fn touch(&mut self, sector: u32) -> Result<usize, Refusal>
+    fn touch(&mut self, sector: u32) -> Result<usize, Refusal>
         requires { Safe D.Disk P.Policy self.old }
         ensures under { D.Disk.sound self.new.below }
         ensures answers { result ≡ with_place (answer (D.Disk.meaning self.old.below) sector 512)
@@ -67,6 +68,20 @@ impl<D: Disk, P: Policy> Cache<D, P> {
             }
             None => self.fetch(sector),
         }
+    }
+
+    // The place of a sector that a buffer of so many bytes is to be read from or written into. A refused request changes nothing.
+    pub(crate) fn place_for(&mut self, sector: u32, len: usize) -> Result<usize, Refusal>
+        requires { Safe D.Disk P.Policy self.old }
+        ensures under { D.Disk.sound self.new.below }
+        ensures answers { result ≡ with_place (answer (D.Disk.meaning self.old.below) sector len)
+            (place_of P.Policy.rules (view D.Disk P.Policy self.old) sector) }
+        ensures after { view D.Disk P.Policy self.new ≡ judged_view P.Policy.rules (view D.Disk P.Policy self.old) sector len }
+    {
+        if len != SECTOR_BYTES {
+            return Err(Refusal::BufferLength);
+        }
+        self.touch(sector)
     }
 
     // Serves a read from a place.
