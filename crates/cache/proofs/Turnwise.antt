@@ -1,6 +1,5 @@
 -- A list of turns, one after another.
-use Rattle.std.proofs.Common.{◌≡◌, ℕ, ◌+◌, ◌<◌, ◌≤◌, List, [], ◌∷◌, ◌++◌, map, length, get_or, take, drop, set, Some, refl, ap, ◌∙◌, subst, arith}
-use Rattle.std.proofs.lemmas.List.{take_more, take_more_set, drop_more, drop-set-lt, length-set, take_all}
+use Rattle.std.proofs.Common.{◌≡◌, ℕ, ◌+◌, ◌<◌, ◌≤◌, List, [], ◌∷◌, ◌++◌, map, length, get_or, take, set, Some, refl, ap, ◌∙◌, subst}
 use Rattle.disk.specs.declared.turn.Turn.{Turn}
 use Rattle.disk.specs.declared.disk.Disk as disks
 use Rattle.policy.specs.declared.policy.Policy as policies
@@ -8,6 +7,7 @@ use Rattle.cache.specs.declared.cache.Cache.{Cache}
 use Rattle.disk.specs.Meaning.{Meaning, unserved}
 use Rattle.disk.specs.Asked.{answer_asked, buffer_after, after_all}
 use Rattle.disk.specs.Turns.{asked_in, Answered, AllAnswered}
+use Rattle.disk.proofs.InPlace.{Replaced, replaced_more, one_before, one_after, all_before, all_after}
 use Rattle.cache.specs.Events.{Event, Each, AsAlone, all_asked}
 use Rattle.cache.specs.Promise.{Origin, Taken}
 use Rattle.cache.specs.Reading.{view}
@@ -88,33 +88,21 @@ module _ {D P Setting : Type 0} (d : disks.Ghosts D) (p : policies.Ghosts P Sett
 
   -- what holds once a cache, at first c₀, has taken i turns of the list us, which is now ts
   pub record Taking (c₀ : Cache D P) (us ts : List Turn) (i : ℕ) (c : Cache D P) : Type 0 where
-    pub rest : drop i ts ≡ drop i us
-    pub long : length ts ≡ length us
+    pub replaced : Replaced us ts i
     pub events : List (Event p.State)
     pub turns : TakesTurns d p c₀ (take i us) (take i ts) events c
 
   pub taking_none : (c₀ : Cache D P) (us : List Turn) → Taking c₀ us us 0 c₀
-  taking_none c₀ us = record { rest = refl; long = refl; events = []; turns = none }
+  taking_none c₀ us = record { replaced = record { rest = refl; long = refl }; events = []; turns = none }
 
   module _ (c₀ : Cache D P) (us ts : List Turn) (i : ℕ) (c : Cache D P) (q : Taking c₀ us ts i c) where
-    pub taking_more : (e t t' : Turn) (c' : Cache D P) → i < length ts → t ≡ get_or ts i e → TakesOne d p c t t' c' → Taking c₀ us (set ts i t') (i + 1) c'
-    taking_more e t t' c' h is k =
-        let h' : i < length us = rw q.long at h in
-        let a = drop_more ts i e h in
-        let b = drop_more us i e h' in
-        let r = q.rest in
-        let head : get_or us i e ≡ t = cc in
-        let tail : drop (i + 1) ts ≡ drop (i + 1) us = cc in
-        let front : take (i + 1) us ≡ take i us ++ (t ∷ []) = rw (take_more us i e h', head) in
-        record {
-          rest = drop-set-lt (i + 1) ts i t' (omega arith) ∙ tail;
-          long = length-set ts i t' ∙ q.long;
-          events = q.events ++ (k.event ∷ []);
-          turns = rw (front, take_more_set ts i t' h) (turns_push q.turns k.taken);
-        }
+    pub taking_more : (e t t' : Turn) (c' : Cache D P) → i < length ts → t ≡ get_or ts i e → TakesOne d p c t t' c' →
+        Taking c₀ us (set ts i t') (i + 1) c'
+    taking_more e t t' c' h is k = record {
+      replaced = replaced_more q.replaced e t t' h is;
+      events = q.events ++ (k.event ∷ []);
+      turns = rw (one_before q.replaced e t t' h is, one_after q.replaced e t t' h is) (turns_push q.turns k.taken);
+    }
 
     pub taking_all : length us ≤ i → TakesTurns d p c₀ us ts q.events c
-    taking_all h =
-        let a = take_all i us h in
-        let b = take_all i ts (rw q.long h) in
-        rw (a, b) at q.turns
+    taking_all h = rw (all_before q.replaced h, all_after q.replaced h) at q.turns

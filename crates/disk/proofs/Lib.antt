@@ -1,4 +1,5 @@
 pub mod Served
 pub mod Images
+pub mod InPlace
 pub mod Turns
 pub mod Members

@@ -1,10 +1,10 @@
 -- Lists of turns, turn by turn.
 use Rattle.std.proofs.Common.{◌≡◌, ℕ, zero, suc, ◌+◌, ◌<◌, ◌≤◌, min, Bool, true, false, cond, ◌&&◌, eqb, Result}
-use Rattle.std.proofs.Common.{List, [], ◌∷◌, ◌++◌, map, length, get_or, take, drop, set, count_by, vec_items, vec_len}
+use Rattle.std.proofs.Common.{List, [], ◌∷◌, ◌++◌, map, length, get_or, take, set, count_by, vec_items, vec_len}
 use Rattle.std.proofs.Common.{sym, refl, ap, ◌∙◌, inl, inr, append_assoc, add-zero, arith}
 use mathlib.Core.Path.{fun_ext}
 use Rattle.std.proofs.lemmas.Bool.{cases_Bool}
-use Rattle.std.proofs.lemmas.List.{with_items_is, append-nil, map-append, take_more, take_more_set, drop_more, drop-set-lt, length-set, take_all}
+use Rattle.std.proofs.lemmas.List.{with_items_is, append-nil, map-append}
 use Rattle.std.proofs.lemmas.List.Sums.{sum_by_push}
 use Rattle.std.specs.Vec.{with_items}
 use Rattle.base.specs.declared.refusal.Refusal.{Refusal}
@@ -14,6 +14,7 @@ use Rattle.disk.specs.declared.turn.Turn.{Turn}
 use Rattle.disk.specs.Meaning.{Meaning, Tallied, raised, answer, serves, after_read, buffer_read, largest_tally}
 use Rattle.disk.specs.Asked.{Asked, is_read, is_write, after_request, buffer_request, answer_asked, after_asked, buffer_asked}
 use Rattle.disk.specs.Asked.{reads_in, writes_in, latest, bytes_after, buffer_after, after_all}
+use Rattle.disk.proofs.InPlace.{Replaced, replaced_more, one_before, one_after, all_before, all_after}
 use Rattle.disk.specs.Turns.{asked_in, Done, Answered, AllAnswered}
 
 -- a read served into the buffer of a turn
@@ -136,33 +137,24 @@ module _ (m : Meaning) where
 
 -- what holds once i turns of the list us, which is now ts, are taken
 pub record Running (m : Meaning) (us ts : List Turn) (i : ℕ) (m' : Meaning) : Type 0 where
+  pub replaced : Replaced us ts i
   pub answered : AllAnswered m [] (take i us) (take i ts)
-  pub rest : drop i ts ≡ drop i us
-  pub long : length ts ≡ length us
   pub after : m' ≡ along m (map asked_in (take i us))
 
 module _ (m : Meaning) (us ts : List Turn) (i : ℕ) (m' : Meaning) (q : Running m us ts i m') where
   pub running_more : (d t t' : Turn) (m'' : Meaning) → i < length ts → t ≡ get_or ts i d → Done m' t t' →
       m'' ≡ after_asked m' (asked_in t) → Running m us (set ts i t') (i + 1) m''
   running_more d t t' m'' h is e em =
-      let h' : i < length us = rw q.long at h in
       let past = map asked_in (take i us) in
-      let a = drop_more ts i d h in
-      let b = drop_more us i d h' in
-      let c = q.rest in
-      let head : get_or us i d ≡ t = cc in
-      let tail : drop (i + 1) ts ≡ drop (i + 1) us = cc in
-      let front : take (i + 1) us ≡ take i us ++ (t ∷ []) = rw (take_more us i d h', head) in
+      let front = one_before q.replaced d t t' h is in
       let answered = done_answered m past t t' (rw q.after at e) in
       record {
-        answered = rw (front, take_more_set ts i t' h) (answered_push m [] (take i us) (take i ts) t t' q.answered answered);
-        rest = drop-set-lt (i + 1) ts i t' (omega arith) ∙ tail;
-        long = length-set ts i t' ∙ q.long;
+        replaced = replaced_more q.replaced d t t' h is;
+        answered = rw (front, one_after q.replaced d t t' h is) (answered_push m [] (take i us) (take i ts) t t' q.answered answered);
         after = rw (front, map-append asked_in (take i us) (t ∷ []), along_push m past (asked_in t), ← q.after) em;
       }
 
   pub running_all : length us ≤ i → AllAnswered m [] us ts × (m' ≡ along m (map asked_in us))
   running_all h =
-      let a = take_all i us h in
-      let b = take_all i ts (rw q.long h) in
-      (rw (a, b) at q.answered, rw a at q.after)
+      let a = all_before q.replaced h in
+      (rw (a, all_after q.replaced h) at q.answered, rw a at q.after)

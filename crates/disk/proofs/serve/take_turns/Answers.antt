@@ -5,7 +5,7 @@ use Rattle.disk.proofs.Turns.{running_more, running_all, along_is}
 use Rattle.disk.proofs.serve.take_turns.Goals as goal
 
 pub loop-turn-init : goal.loop-turn-init
-loop-turn-init g c = (c.requires, record { answered = tt; rest = refl; long = refl; after = refl })
+loop-turn-init g c = (c.requires, record { replaced = record { rest = refl; long = refl }; answered = tt; after = refl })
 
 pub loop-turn-preserved : goal.loop-turn-preserved
 loop-turn-preserved g c =
