@@ -1,6 +1,8 @@
 -- Which sectors of a store are dirty, and what each change of a place does to that.
-use Rattle.std.proofs.Common.{◌≡◌, ℕ, zero, suc, ◌<◌, ◌≤◌, Bool, true, false, cond, not, ◌&&◌, ◌||◌, eqb, ltb, List, [], ◌∷◌, map, filter, count_by, length, get_or, sym, refl, ap, ◌∙◌, inl, inr, arith}
-use Rattle.std.proofs.lemmas.Bool.{cases_Bool, cases_eq, cases_lt, eq-eqb, ne_eqb, lt-ltb, le-ltb, and_from, and_left, and_right, not_from_true, not_from_false, true≢false}
+use Rattle.std.proofs.Common.{◌≡◌, ℕ, zero, suc, ◌<◌, ◌≤◌, Bool, true, false, cond, not, ◌&&◌, ◌||◌, eqb, ltb, List, [], ◌∷◌, map, filter}
+use Rattle.std.proofs.Common.{count_by, length, get_or, sym, refl, ap, ◌∙◌, inl, inr, arith}
+use Rattle.std.proofs.lemmas.Bool.{cases_Bool, cases_eq, cases_lt, eq-eqb, ne_eqb, lt-ltb, le-ltb, and_from, and_left, and_right}
+use Rattle.std.proofs.lemmas.Bool.{not_from_true, not_from_false, true≢false}
 use Rattle.std.proofs.lemmas.List.{length-map}
 use Rattle.std.proofs.lemmas.List.Sums.{length-filter}
 use mathlib.Core.Path.{fun_ext}
@@ -9,7 +11,8 @@ use Rattle.cache.specs.declared.store.Place.{Place}
 use Rattle.cache.specs.declared.store.Store.{Store}
 use Rattle.cache.specs.Places.{HeldOnce, used, place_at, dirty, is_dirty, changed, stored, cleaned, installed}
 use Rattle.cache.specs.View.{Holding, shown}
-use Rattle.cache.proofs.Stores.{Absent, HeldAt, blank, cases_held, changed_used, changed_at, changed_other, changed_sector, changed_once, shown_absent, shown_held, held_then, gone_then, absent_then, new_at, new_other, used_f, sector_f}
+use Rattle.cache.proofs.Stores.{Absent, HeldAt, blank, cases_held, changed_used, changed_at, changed_other, changed_sector, changed_once}
+use Rattle.cache.proofs.Stores.{shown_absent, shown_held, held_then, gone_then, absent_then, new_at, new_other, used_f, sector_f}
 
 -- the sectors of the dirty places of a list
 abbrev dirty_in : List Place → List ℕ
@@ -28,7 +31,8 @@ from_dirty (p ∷ ps) x h = elim (cases_Bool p.dirty) [
 ]
 
 -- and the sector of a dirty place is dirty
-to_dirty : (ps : List Place) (i : ℕ) → i < length ps → (get_or ps i blank).dirty ≡ true → member (get_or ps i blank).sector (dirty_in ps) ≡ true
+to_dirty : (ps : List Place) (i : ℕ) → i < length ps → (get_or ps i blank).dirty ≡ true →
+    member (get_or ps i blank).sector (dirty_in ps) ≡ true
 to_dirty [] i l d = absurd (omega arith)
 to_dirty (p ∷ ps) zero l d = rw (d, eq-eqb p.sector p.sector refl)
 to_dirty (p ∷ ps) (suc i) l d =
@@ -56,7 +60,9 @@ module _ (s : Store) where
 
   -- how many there are
   pub dirty_count : length (dirty s) ≡ count_by (λ (p : Place). p.dirty) s.places.items
-  dirty_count = length-map (filter (λ (p : Place). p.dirty) s.places.items) (λ (p : Place). p.sector) ∙ length-filter (λ (p : Place). p.dirty) s.places.items
+  dirty_count =
+      length-map (filter (λ (p : Place). p.dirty) s.places.items) (λ (p : Place). p.sector) ∙
+      length-filter (λ (p : Place). p.dirty) s.places.items
 
   -- a sector that no place holds is not dirty, and one that place i holds is as that place
   pub dirty_absent : (x : ℕ) → Absent s x → is_dirty s x ≡ false
@@ -94,19 +100,23 @@ changed_dirty : (s : Store) (f : ℕ) (p : Place) (same : p.sector ≡ (place_at
 changed_dirty s f p same low once y =
     let t = changed s f p in
     let once' = changed_once s f p same low once in
-    let there : (i : ℕ) → HeldAt s y i → HeldAt t y i = λ i at. (rw (changed_used s f p same) at.0, changed_sector s f p same low i ∙ at.1) in
+    let there : (i : ℕ) → HeldAt s y i → HeldAt t y i =
+    λ i at. (rw (changed_used s f p same) at.0, changed_sector s f p same low i ∙ at.1) in
     elim (cases_held s y) [
       | inl q ↦ elim (cases_eq q.0 f) [
         | inl e ↦
             let is : y ≡ (place_at s f).sector = sym (rw e at q.1.1) in
-            rw (eq-eqb y (place_at s f).sector is) (dirty_held t once' y q.0 (there q.0 q.1) ∙ ap (λ i. (place_at t i).dirty) e ∙ ap (λ (w : Place). w.dirty) (changed_at s f p same low))
+            rw (eq-eqb y (place_at s f).sector is) (dirty_held t once' y q.0 (there q.0 q.1) ∙ ap (λ i. (place_at t i).dirty) e ∙
+            ap (λ (w : Place). w.dirty) (changed_at s f p same low))
         | inr n ↦
             rw (ne_eqb y (place_at s f).sector (λ k. n (once q.0 f q.1.0 low (q.1.1 ∙ k))))
-            (dirty_held t once' y q.0 (there q.0 q.1) ∙ ap (λ (w : Place). w.dirty) (changed_other s f p same q.0 n) ∙ sym (dirty_held s once y q.0 q.1))
+            (dirty_held t once' y q.0 (there q.0 q.1) ∙ ap (λ (w : Place). w.dirty) (changed_other s f p same q.0 n) ∙
+            sym (dirty_held s once y q.0 q.1))
       ]
       | inr a ↦
           rw (ne_eqb y (place_at s f).sector (λ k. a f low (sym k)))
-          (dirty_absent t y (λ i l e. a i (rw (changed_used s f p same) at l) (sym (changed_sector s f p same low i) ∙ e)) ∙ sym (dirty_absent s y a))
+          (dirty_absent t y (λ i l e. a i (rw (changed_used s f p same) at l) (sym (changed_sector s f p same low i) ∙ e)) ∙
+          sym (dirty_absent s y a))
     ]
 
 module _ (s : Store) (f : ℕ) (low : f < used s) (once : HeldOnce s) (y : ℕ) where
@@ -129,7 +139,8 @@ and_true true y e = e
 and_true false y e = refl
 
 -- a place in use, or the next, given to a sector x that no place holds: the sector that it held is dirty no more
-module _ {count : ℕ} {dead : ℕ → Bool} {bytes : ℕ → List ℕ} (s : Store) (h : Holding count dead bytes s) (x f : ℕ) (none : Absent s x) (next : f ≤ used s) where
+module _ {count : ℕ} {dead : ℕ → Bool} {bytes : ℕ → List ℕ} (s : Store) (h : Holding count dead bytes s) (x f : ℕ) (none : Absent s x)
+    (next : f ≤ used s) where
   abbrev t : Store
   t = installed s f x (bytes x)
 
@@ -144,12 +155,15 @@ module _ {count : ℕ} {dead : ℕ → Bool} {bytes : ℕ → List ℕ} (s : Sto
             | inl l ↦ and_right _ _ (ne_eqb y _ (λ k. n (h.apart p.0 f p.1.0 l (p.1.1 ∙ k))))
             | inr l ↦ and_left _ _ (le-ltb f (used s) l)
           ] in
-          dirty_held t once y p.0 (held_then s h x f none next y p.0 p.1 n) ∙ ap (λ (w : Place). w.dirty) (new_other s h x f none next p.0 p.1.0 n) ∙
+          dirty_held t once y p.0 (held_then s h x f none next y p.0 p.1 n) ∙
+          ap (λ (w : Place). w.dirty) (new_other s h x f none next p.0 p.1.0 n) ∙
           sym (and_true (is_dirty s y) _ (not_from_false _ other) ∙ dirty_held s h.apart y p.0 p.1)
     ]
     | inr a ↦
         let clean : is_dirty t y ≡ false = elim (cases_eq y x) [
-          | inl e ↦ dirty_held t once y f (used_f s h x f none next, sector_f s h x f none next ∙ sym e) ∙ ap (λ (w : Place). w.dirty) (new_at s h x f none next)
+          | inl e ↦
+              dirty_held t once y f (used_f s h x f none next, sector_f s h x f none next ∙ sym e) ∙
+              ap (λ (w : Place). w.dirty) (new_at s h x f none next)
           | inr n ↦ dirty_absent t y (absent_then s h x f none next y a n)
         ] in
         clean ∙ sym (and_left (is_dirty s y) _ (dirty_absent s y a))

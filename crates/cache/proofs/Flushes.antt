@@ -1,5 +1,6 @@
 -- What a flush does, place by place.
-use Rattle.std.proofs.Common.{◌≡◌, ℕ, zero, suc, ◌+◌, ◌<◌, ◌≤◌, min, Bool, false, ◌≢◌, [], take, count_by, sym, refl, ap, ◌∙◌, inl, inr, arith}
+use Rattle.std.proofs.Common.{◌≡◌, ℕ, zero, suc, ◌+◌, ◌<◌, ◌≤◌, min, Bool, false, ◌≢◌, [], take, count_by, sym, refl, ap, ◌∙◌, inl, inr}
+use Rattle.std.proofs.Common.{arith}
 use mathlib.Core.Path.{fun_ext}
 use Rattle.std.proofs.lemmas.Bool.{cases_Bool, cases_eq}
 use Rattle.policy.specs.Machine.{Rules}
@@ -26,7 +27,8 @@ flushed_view v zero = v
 flushed_view v (suc n) = backed_view (flushed_view v n) n
 
 -- where nothing is dirty, the disk below has what the cache shows
-pub clean_shows : {Setting State : Type 0} (r : Rules Setting State) (w : View State) → Sound r w → dirty w.store ≡ [] → w.below.bytes ≡ (seen w).bytes
+pub clean_shows : {Setting State : Type 0} (r : Rules Setting State) (w : View State) → Sound r w → dirty w.store ≡ [] →
+    w.below.bytes ≡ (seen w).bytes
 clean_shows r w s clean = sym (shown_dirty w.store s.holding ∙ fun_ext (λ x. rw clean))
 
 module _ {Setting State : Type 0} (r : Rules Setting State) (shape : Shape r) where
@@ -90,8 +92,18 @@ module _ {Setting State : Type 0} (r : Rules Setting State) (shape : Shape r) wh
       ]
 
   pub flushing : (v : View State) (n : ℕ) → Sound r v → n ≤ used v.store → Flushing v (flushed_view v n) n
-  flushing v zero s h = record
-      { sound = s; shows = refl; stays = refl; fetched = refl; filled = refl; pinned = refl; reads = refl; writes = (let k = s.tallied.1 in omega arith); clean = λ i k. absurd (omega arith); rest = λ i k. refl }
+  flushing v zero s h = record {
+    sound = s;
+    shows = refl;
+    stays = refl;
+    fetched = refl;
+    filled = refl;
+    pinned = refl;
+    reads = refl;
+    writes = (let k = s.tallied.1 in omega arith);
+    clean = λ i k. absurd (omega arith);
+    rest = λ i k. refl;
+  }
   flushing v (suc n) s h = flushing_more v (flushed_view v n) n (omega arith) (flushing v n s (omega arith))
 
   pub flushed_is : (v w : View State) → Sound r v → Flushing v w (used v.store) → Flushed v w

@@ -1,5 +1,6 @@
 -- Where a key stands in a list.
-use Rattle.std.proofs.Common.{◌≡◌, ℕ, zero, suc, ◌+◌, ◌-◌, ◌<◌, ◌≤◌, true, false, ◌||◌, eqb, ltb, nat_eq, List, [], ◌∷◌, map, length, take, drop, is_some, sym, refl, ◌∙◌, inl, inr, zero-add, arith}
+use Rattle.std.proofs.Common.{◌≡◌, ℕ, zero, suc, ◌+◌, ◌-◌, ◌<◌, ◌≤◌, true, false, ◌||◌, eqb, ltb, nat_eq, List, [], ◌∷◌, map, length, take}
+use Rattle.std.proofs.Common.{drop, is_some, sym, refl, ◌∙◌, inl, inr, zero-add, arith}
 use Rattle.std.proofs.lemmas.Bool.{cases_Bool, cases_eq, cases_lt, eq-eqb, ne_eqb, lt-ltb, le-ltb, or_parts, true≢false}
 use Rattle.std.proofs.lemmas.List.{length-map, length-drop, drop-set-add, drop-append-le, take-set-le, take-append-le}
 use Rattle.std.specs.List.{position, position_or_len}
@@ -16,7 +17,11 @@ pub place_front : (x n : ℕ) (xs : List ℕ) → member x (take n xs) ≡ true 
 place_front x zero xs h = absurd (true≢false (sym h))
 place_front x (suc n) [] h = absurd (true≢false (sym h))
 place_front x (suc n) (y ∷ ys) h =
-    elim (cases_Bool (eqb x y)) [ inl e ↦ rw e (omega arith) | inr e ↦ rw e (let k : place_in x ys < n = place_front x n ys (rw e at h) in omega arith) ]
+    elim (cases_Bool (eqb x y)) [
+      | inl e ↦ rw e (omega arith)
+      | inr e ↦
+          rw e (let k : place_in x ys < n = place_front x n ys (rw e at h) in omega arith)
+    ]
 
 pub place_back : (x n : ℕ) (xs : List ℕ) → n ≤ length xs → member x (take n xs) ≡ false → place_in x xs ≡ n + place_in x (drop n xs)
 place_back x zero xs h out = sym (zero-add _)

@@ -14,13 +14,16 @@ use Rattle.cache.specs.Promise.{Origin, Taken, Promise, touches, machine_fetches
 use Rattle.cache.proofs.Takings.{facts_of}
 
 -- planning in lists with enough places is not refused
-plan_accepted : (ts : List ℕ) (k h : ℕ) (places : Places) → 1 ≤ k → k ≤ 64 → length ts ≤ most_touches → 1 ≤ h → h ≤ k → enough (length ts) h places ≡ true →
+plan_accepted : (ts : List ℕ) (k h : ℕ) (places : Places) → 1 ≤ k → k ≤ 64 → length ts ≤ most_touches → 1 ≤ h → h ≤ k →
+    enough (length ts) h places ≡ true →
     planned ts k h places ≡ Ok (planning_of ts k h)
-plan_accepted ts k h places some most few one fits room = rw (le-leb 1 k some, le-leb k 64 most, le-leb (length ts) most_touches few, room, le-leb 1 h one, le-leb h k fits)
+plan_accepted ts k h places some most few one fits room =
+    rw (le-leb 1 k some, le-leb k 64 most, le-leb (length ts) most_touches few, room, le-leb 1 h one, le-leb h k fits)
 
 module _ {Setting State : Type 0} (r : Rules Setting State) (law : Conservative r) where
   -- the bound for a count that is at most the machine's
-  cut_bound : (c : Setting) (k h d F : ℕ) (ts : List ℕ) → 1 ≤ h → h ≤ k → Demand h [] ts d → F ≤ fetches r (start r c k) ts → (k - h + 1) * F ≤ k * d + k * (k - h + 1)
+  cut_bound : (c : Setting) (k h d F : ℕ) (ts : List ℕ) → 1 ≤ h → h ≤ k → Demand h [] ts d → F ≤ fetches r (start r c k) ts →
+      (k - h + 1) * F ≤ k * d + k * (k - h + 1)
   cut_bound c k h d F ts one fits demand low =
       let whole = competitive r law c k h d [] ts [] one fits (omega arith) demand in
       let part = mul-le-mul_left (k - h + 1) low in
@@ -31,7 +34,8 @@ module _ {Setting State : Type 0} (r : Rules Setting State) (law : Conservative 
       let ts = touches o es in
       let f = facts_of r o es v t in
       let low : v.fetched ≤ machine_fetches r o es = omega (arith, f.counts) in
-      let bound : (h d : ℕ) → 1 ≤ h → h ≤ o.frames → Demand h [] ts d → (o.frames - h + 1) * v.fetched ≤ o.frames * d + o.frames * (o.frames - h + 1) =
+      let bound : (h d : ℕ) → 1 ≤ h → h ≤ o.frames → Demand h [] ts d →
+      (o.frames - h + 1) * v.fetched ≤ o.frames * d + o.frames * (o.frames - h + 1) =
       λ h d one fits demand. cut_bound o.setting o.frames h d v.fetched ts one fits demand low in
       record {
         answers = f.answers;

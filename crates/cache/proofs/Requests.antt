@@ -1,5 +1,6 @@
 -- Requests: an access, and then the place's bytes read or written.
-use Rattle.std.proofs.Common.{inl, inr, ◌≡◌, ℕ, true, false, not, ◌&&◌, ◌||◌, eqb, List, length, is_ok, Ok, Err, Result, sym, refl, ap, ◌∙◌, arith}
+use Rattle.std.proofs.Common.{inl, inr, ◌≡◌, ℕ, true, false, not, ◌&&◌, ◌||◌, eqb, List, length, is_ok, Ok, Err, Result, sym, refl, ap, ◌∙◌}
+use Rattle.std.proofs.Common.{arith}
 use Rattle.std.proofs.lemmas.Bool.{cases_Bool, cases_eq, cond-true, cond-false, ne_eqb, and_right, true≢false}
 use Rattle.base.specs.declared.refusal.Refusal.{Refusal}
 use Rattle.disk.specs.declared.turn.Request.{Request}
@@ -131,7 +132,9 @@ module _ {Setting State : Type 0} {r : Rules Setting State} {v w : View State} {
     -- the read served from it
     module _ (w' : View State) (after : w' ≡ read_view w) where
       pub read_sound : Sound r w'
-      read_sound = let k = touched_is.sound in rw after (record { placing = k.placing; holding = k.holding; sizes = k.sizes; tallied = k.tallied })
+      read_sound =
+          let k = touched_is.sound in
+          rw after (record { placing = k.placing; holding = k.holding; sizes = k.sizes; tallied = k.tallied })
 
       pub read_took : (bs : List ℕ) → bs ≡ (place_at w.store f).block → Took r v (turn Read x b bs (Ok tt) w')
       read_took bs fills = record {
@@ -167,6 +170,7 @@ module _ {Setting State : Type 0} {r : Rules Setting State} {v w : View State} {
             fills = refl;
             shows = rw (after, served, stored_shows w.store k.holding f accepted_at.0 b, accepted_at.1)
                 (ap (λ m. written_one m x b) touched_is.shows);
-            turned = λ _. rw after (turned Write (write_view w f b) (rw (stored_held w.store f b)) (rw (stored_held w.store f b)) refl refl write_dirty);
+            turned = λ _. rw after
+                (turned Write (write_view w f b) (rw (stored_held w.store f b)) (rw (stored_held w.store f b)) refl refl write_dirty);
             flushed = λ n. absurd (true≢false (ap accesses n));
           }

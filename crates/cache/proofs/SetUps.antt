@@ -26,7 +26,8 @@ idle m p s = record { below = m; policy = p; store = s; fetched = 0; reads = 0; 
 
 module _ {Setting State : Type 0} (r : Rules Setting State) (shape : Shape r) where
   -- an empty one
-  pub empty_sound : (c : Setting) (k : ℕ) → 1 ≤ k → k ≤ 64 → (m : Meaning) (p : State) (s : Store) → Sized m → Tallied m → p ≡ r.first c k → s.places.items ≡ [] → s.pinned ≡ 0 →
+  pub empty_sound : (c : Setting) (k : ℕ) → 1 ≤ k → k ≤ 64 → (m : Meaning) (p : State) (s : Store) → Sized m → Tallied m →
+      p ≡ r.first c k → s.places.items ≡ [] → s.pinned ≡ 0 →
       Sound r (idle m p s)
   empty_sound c k some most m p s sizes tallied is empty unpinned =
       let none : used s ≡ 0 = ap length empty in
@@ -46,7 +47,8 @@ module _ {Setting State : Type 0} (r : Rules Setting State) (shape : Shape r) wh
       }
 
 -- a cache c that is set up: no frame is filled, and nothing is dirty
-module _ {D P Setting : Type 0} (d : disks.Ghosts D) (p : policies.Ghosts P Setting) (shape : Shape p.rules) (c : SetUpCache D P) (q : Ready d p c) where
+module _ {D P Setting : Type 0} (d : disks.Ghosts D) (p : policies.Ghosts P Setting) (shape : Shape p.rules) (c : SetUpCache D P)
+    (q : Ready d p c) where
   abbrev m : Meaning
   m = d.meaning c.below
 
@@ -94,7 +96,8 @@ module _ {D P Setting : Type 0} (d : disks.Ghosts D) (p : policies.Ghosts P Sett
     pinned_holds =
         let l = live_served m x 512 served in
         let h : Holding m.count m.dead m.bytes (record { pinned = s.pinned; places = then_store.places }) =
-        rw (le-ltb (used s) (used s) next) at (installed_holds s q.own.holding x (used s) none next l.inside l.live (q.own.sizes x l.inside)) in
+        rw (le-ltb (used s) (used s) next) at (installed_holds s q.own.holding x (used s) none next l.inside l.live
+        (q.own.sizes x l.inside)) in
         record { apart = h.apart; inside = h.inside; live = h.live; sized = h.sized; clean = h.clean }
 
     pin_sound : Sound p.rules (idle (read_one m) (p.model c.policy) then_store)
@@ -112,7 +115,8 @@ module _ {D P Setting : Type 0} (d : disks.Ghosts D) (p : policies.Ghosts P Sett
         (each_then s q.own.holding x (used s) none next (λ (w : Place). w.dirty ≡ false) refl (clean_at s q.clean)))
 
     -- the cache c' whose disk has served the read, and whose store has the sector, is as c was
-    pub pin_kept : (c' : SetUpCache D P) (b : List ℕ) → d.meaning c'.below ≡ read_one m → c'.store ≡ pinned_in s x b → b ≡ m.bytes x → c'.policy ≡ c.policy →
+    pub pin_kept : (c' : SetUpCache D P) (b : List ℕ) → d.meaning c'.below ≡ read_one m → c'.store ≡ pinned_in s x b → b ≡ m.bytes x →
+        c'.policy ≡ c.policy →
         c'.geometry ≡ c.geometry → d.sound c'.below → Ready d p c'
     pin_kept c' b em es eb ep eg under = record {
       under = under;

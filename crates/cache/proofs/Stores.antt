@@ -1,8 +1,10 @@
 -- Stores: what they show, and what holds of them after each change.
-use Rattle.std.proofs.Common.{◌≡◌, ℕ, ◌+◌, ◌<◌, ◌≤◌, Bool, true, false, cond, ltb, ◌≢◌, ◌⊎◌, List, [], ◌∷◌, length, get_or, sym, refl, ap, ◌∙◌, inl, inr, arith}
+use Rattle.std.proofs.Common.{◌≡◌, ℕ, ◌+◌, ◌<◌, ◌≤◌, Bool, true, false, cond, ltb, ◌≢◌, ◌⊎◌, List, [], ◌∷◌, length, get_or, sym, refl, ap}
+use Rattle.std.proofs.Common.{◌∙◌, inl, inr, arith}
 use mathlib.Core.Path.{fun_ext}
 use Rattle.std.proofs.lemmas.Bool.{cases_Bool, cases_eq, cases_lt, eq-eqb, ne_eqb, lt-ltb, le-ltb, true≢false}
-use Rattle.std.proofs.lemmas.List.{length-map, length-append, get_or-map, get_or_at, get_or_append_left, get_or-set_same, get_or-set_other, length-set, map-set, map_push}
+use Rattle.std.proofs.lemmas.List.{length-map, length-append, get_or-map, get_or_at, get_or_append_left, get_or-set_same, get_or-set_other}
+use Rattle.std.proofs.lemmas.List.{length-set, map-set, map_push}
 use Rattle.std.proofs.Math.Seq.{map-set_same}
 use Rattle.base.specs.Lists.{member, place_in}
 use Rattle.policy.specs.Machine.{put}
@@ -74,7 +76,8 @@ pub replaced_other : {X : Type 0} (g : ℕ → X) (a x : ℕ) (w : X) → (x ≡
 replaced_other g a x w n = rw (ne_eqb x a n)
 
 pub replaced_same : {X : Type 0} (g : ℕ → X) (a : ℕ) (w : X) → g a ≡ w → replaced g a w ≡ g
-replaced_same g a w e = fun_ext (λ x. elim (cases_eq x a) [ inl k ↦ replaced_at g a x w k ∙ sym (ap g k ∙ e) | inr n ↦ replaced_other g a x w n ])
+replaced_same g a w e =
+    fun_ext (λ x. elim (cases_eq x a) [ inl k ↦ replaced_at g a x w k ∙ sym (ap g k ∙ e) | inr n ↦ replaced_other g a x w n ])
 
 -- a place f in use changed to p, which has the same sector
 module _ (s : Store) (f : ℕ) (p : Place) (same : p.sector ≡ (place_at s f).sector) where
@@ -119,7 +122,13 @@ module _ (s : Store) (f : ℕ) (p : Place) (same : p.sector ≡ (place_at s f).s
       changed_shows = fun_ext (λ x. elim (cases_Bool (member x (held s))) [
         | inl e ↦ elim (cases_eq (place_in x (held s)) f) [
           | inl k ↦ rw (changed_held, e, k, changed_at, eq-eqb x (place_at s f).sector (sym (rw k at (at_place s x e).1)))
-          | inr n ↦ rw (changed_held, e, changed_other (place_in x (held s)) n, ne_eqb x (place_at s f).sector (λ k. n (place_is s h x f (low, sym k))))
+          | inr n ↦
+              rw (
+                changed_held,
+                e,
+                changed_other (place_in x (held s)) n,
+                ne_eqb x (place_at s f).sector (λ k. n (place_is s h x f (low, sym k))),
+              )
         ]
         | inr e ↦
             let other : x ≡ (place_at s f).sector → ⊥ = λ k. absent_from s x e f low (sym k) in
@@ -155,7 +164,9 @@ module _ {count : ℕ} {dead : ℕ → Bool} {bytes : ℕ → List ℕ} (s : Sto
   clean_f = clean_place (place_at s f).sector (place_at s f).block
 
   pub cleaned_holds : Holding count dead written (cleaned s f)
-  cleaned_holds = changed_holds s f clean_f refl low h written (λ x n. replaced_other bytes _ x _ n) (h.sized f low) (λ _. sym (replaced_at bytes _ _ _ refl))
+  cleaned_holds =
+      changed_holds s f clean_f refl low h written (λ x n. replaced_other bytes _ x _ n) (h.sized f low)
+      (λ _. sym (replaced_at bytes _ _ _ refl))
 
   pub cleaned_shows : shown (cleaned s f) written ≡ shown s bytes
   cleaned_shows =
@@ -173,7 +184,8 @@ module _ {count : ℕ} {dead : ℕ → Bool} {bytes : ℕ → List ℕ} (s : Sto
   stored_shows b = changed_shows s f (dirty_f b) refl low h bytes (λ x n. refl)
 
 -- a place in use, or the next, given to a sector x that no place holds, with the disk's bytes
-module _ {count : ℕ} {dead : ℕ → Bool} {bytes : ℕ → List ℕ} (s : Store) (h : Holding count dead bytes s) (x f : ℕ) (none : Absent s x) (next : f ≤ used s) where
+module _ {count : ℕ} {dead : ℕ → Bool} {bytes : ℕ → List ℕ} (s : Store) (h : Holding count dead bytes s) (x f : ℕ) (none : Absent s x)
+    (next : f ≤ used s) where
   abbrev new_place : Place
   new_place = clean_place x (bytes x)
 
@@ -224,7 +236,8 @@ module _ {count : ℕ} {dead : ℕ → Bool} {bytes : ℕ → List ℕ} (s : Sto
   sector_f = ap (λ (p : Place). p.sector) new_at
 
   -- a property of places that the new one has, and what was held
-  pub each_then : (P : Place → Type 0) → P new_place → ((i : ℕ) → i < used s → P (place_at s i)) → (i : ℕ) → i < used then_store → P (place_at then_store i)
+  pub each_then : (P : Place → Type 0) → P new_place → ((i : ℕ) → i < used s → P (place_at s i)) → (i : ℕ) → i < used then_store →
+      P (place_at then_store i)
   each_then P new old i k = elim (cases_eq i f) [
     | inl e ↦ rw (e, new_at) new
     | inr n ↦ let l = used_then i k n in rw (new_other i l n) (old i l)
@@ -272,7 +285,8 @@ module _ {count : ℕ} {dead : ℕ → Bool} {bytes : ℕ → List ℕ} (s : Sto
   ]
 
   -- where the place was clean, nothing that is shown changes
-  pub installed_shows : (f < used s → (place_at s f).dirty ≡ false) → Holding count dead bytes then_store → shown then_store bytes ≡ shown s bytes
+  pub installed_shows : (f < used s → (place_at s f).dirty ≡ false) → Holding count dead bytes then_store →
+      shown then_store bytes ≡ shown s bytes
   installed_shows clean h' = fun_ext (λ y. elim (cases_held s y) [
     | inl p ↦ elim (cases_eq p.0 f) [
       | inl e ↦ shown_absent then_store bytes y (gone_then y p.0 p.1 e) ∙
@@ -282,7 +296,9 @@ module _ {count : ℕ} {dead : ℕ → Bool} {bytes : ℕ → List ℕ} (s : Sto
           sym (shown_held s h bytes y p.0 p.1)
     ]
     | inr a ↦ elim (cases_eq y x) [
-      | inl e ↦ shown_held then_store h' bytes y f (used_f, sector_f ∙ sym e) ∙ ap (λ (q : Place). q.block) new_at ∙ ap bytes (sym e) ∙ sym (shown_absent s bytes y a)
+      | inl e ↦
+          shown_held then_store h' bytes y f (used_f, sector_f ∙ sym e) ∙ ap (λ (q : Place). q.block) new_at ∙ ap bytes (sym e) ∙
+          sym (shown_absent s bytes y a)
       | inr n ↦ shown_absent then_store bytes y (absent_then y a n) ∙ sym (shown_absent s bytes y a)
     ]
   ])

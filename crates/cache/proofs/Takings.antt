@@ -1,5 +1,6 @@
 -- The turns that a cache has taken since its start, one after another: what holds after one more, and so after all of them.
-use Rattle.std.proofs.Common.{◌≡◌, ℕ, ◌+◌, ◌<◌, ◌≤◌, min, Bool, true, false, cond, not, ◌&&◌, ◌||◌, ltb, List, [], ◌∷◌, ◌++◌, length, Ok, Result, sym, refl, ap, ◌∙◌, subst, inl, inr, append_assoc, arith}
+use Rattle.std.proofs.Common.{◌≡◌, ℕ, ◌+◌, ◌<◌, ◌≤◌, min, Bool, true, false, cond, not, ◌&&◌, ◌||◌, ltb, List, [], ◌∷◌, ◌++◌, length, Ok}
+use Rattle.std.proofs.Common.{Result, sym, refl, ap, ◌∙◌, subst, inl, inr, append_assoc, arith}
 use Rattle.std.proofs.lemmas.Bool.{cases_Bool, true≢false}
 use Rattle.std.proofs.lemmas.List.{append-nil, map-append}
 use Rattle.base.specs.declared.refusal.Refusal.{Refusal}
@@ -26,7 +27,8 @@ use Rattle.cache.specs.Promise.{Origin, Begun, Taken, FetchesCounted, alone, tou
 
 module _ {State : Type 0} where
   -- lists of turns with one more at the end
-  pub each_push : (P : List (Event State) → Event State → Type 0) (past es : List (Event State)) (e : Event State) → Each P past es → P (past ++ es) e →
+  pub each_push : (P : List (Event State) → Event State → Type 0) (past es : List (Event State)) (e : Event State) → Each P past es →
+      P (past ++ es) e →
       Each P past (es ++ (e ∷ []))
   each_push P past [] e q a = (subst (λ (l : List (Event State)). P l e) (append-nil past) a, tt)
   each_push P past (x ∷ es) e q a =
@@ -76,18 +78,25 @@ module _ {Setting State : Type 0} (r : Rules Setting State) where
     pub counts : v'.fetched ≡ cond (touching q s p && not (member x (framed v.store))) (raised v.fetched) v.fetched
     pub reads : v'.below.reads ≡ cond (touching q s p && not (member x (framed v.store))) (raised v.below.reads) v.below.reads
 
-  touched_one : (n n' : Machine State) (s p : Bool) (x : ℕ) → n' ≡ cond (s && not p) (touch r n x) n → n' ≡ touched r n (cond (s && not p) (x ∷ []) [])
+  touched_one : (n n' : Machine State) (s p : Bool) (x : ℕ) → n' ≡ cond (s && not p) (touch r n x) n →
+      n' ≡ touched r n (cond (s && not p) (x ∷ []) [])
   touched_one n n' true true x e = e
   touched_one n n' true false x e = e
   touched_one n n' false p x e = e
 
   -- the reads below after a fetch or none
-  fetched_reads : (v : View State) (c : Bool) (m : Meaning) → m ≡ cond c (fetched_below r v) v.below → m.reads ≡ cond c (raised v.below.reads) v.below.reads
-  fetched_reads v true m e = rw e (elim (cases_Bool (ltb (next_place r v) (used v.store) && (place_at v.store (next_place r v)).dirty)) [ inl k ↦ rw k refl | inr k ↦ rw k refl ])
+  fetched_reads : (v : View State) (c : Bool) (m : Meaning) → m ≡ cond c (fetched_below r v) v.below →
+      m.reads ≡ cond c (raised v.below.reads) v.below.reads
+  fetched_reads v true m e =
+      rw e (elim (cases_Bool (ltb (next_place r v) (used v.store) && (place_at v.store (next_place r v)).dirty)) [
+        | inl k ↦ rw k refl
+        | inr k ↦ rw k refl
+      ])
   fetched_reads v false m e = ap (λ (n : Meaning). n.reads) e
 
   module _ (v v' : View State) (x len : ℕ) where
-    turned_costs : (q : Request) → is_read q ≡ not (is_write q) → Turned r q v x len v' → Costs v q (serves (seen v) x len) (member x (pins v.store)) x v'
+    turned_costs : (q : Request) → is_read q ≡ not (is_write q) → Turned r q v x len v' →
+        Costs v q (serves (seen v) x len) (member x (pins v.store)) x v'
     turned_costs q one t =
         let s = serves (seen v) x len in
         let p = member x (pins v.store) in
@@ -100,7 +109,8 @@ module _ {Setting State : Type 0} (r : Rules Setting State) where
           reads = rw is (fetched_reads v (misses r v x len) v'.below t.below);
         }
 
-    costs : (q : Request) → (accesses q ≡ true → Turned r q v x len v') → (q ≡ Flush → Flushed v v') → Costs v q (serves (seen v) x len) (member x (pins v.store)) x v'
+    costs : (q : Request) → (accesses q ≡ true → Turned r q v x len v') → (q ≡ Flush → Flushed v v') →
+        Costs v q (serves (seen v) x len) (member x (pins v.store)) x v'
     costs Read t f = turned_costs Read refl (t refl)
     costs Write t f = turned_costs Write refl (t refl)
     costs Flush t f = let k = f refl in record { pinned = k.pinned; frames = k.stays; counts = k.fetched; reads = k.reads }
@@ -119,7 +129,9 @@ module _ {Setting State : Type 0} (r : Rules Setting State) where
   serves_of : (v : View State) (e : Event State) → Took r v e → Serves v e
   serves_of v e k = record {
     few = λ a. served_turn v (misses r v e.asked.sector (length e.asked.buffer)) e.cache.below (k.turned a).below;
-    idle = λ a low room. idle_turn v (misses r v e.asked.sector (length e.asked.buffer)) e.cache.below v.fetched e.cache.fetched (k.turned a).below (k.turned a).counts low room;
+    idle =
+        λ a low room. idle_turn v (misses r v e.asked.sector (length e.asked.buffer)) e.cache.below v.fetched e.cache.fetched
+        (k.turned a).below (k.turned a).counts low room;
     flush_reads = λ f. (k.flushed f).reads;
     flush_writes = λ f. (k.flushed f).writes;
   }
@@ -129,7 +141,8 @@ module _ {Setting State : Type 0} (r : Rules Setting State) where
   fetch_one n true x = elim (cases_Bool (member x n.keys)) [ inl k ↦ rw k | inr k ↦ rw k ]
   fetch_one n false x = refl
 
-  count_one : (c : Bool) (a F F' n : ℕ) → F ≡ min (a + n) largest_tally → F' ≡ cond c (raised F) F → F' ≡ min (a + (n + cond {A = ℕ} c 1 0)) largest_tally
+  count_one : (c : Bool) (a F F' n : ℕ) → F ≡ min (a + n) largest_tally → F' ≡ cond c (raised F) F →
+      F' ≡ min (a + (n + cond {A = ℕ} c 1 0)) largest_tally
   count_one true a F F' n e q = omega arith
   count_one false a F F' n e q = omega arith
 
@@ -168,7 +181,8 @@ module _ {Setting State : Type 0} (r : Rules Setting State) where
       asks = tt;
     }
 
-    facts_more : (es : List (Event State)) (v : View State) (e : Event State) → v ≡ cache_after o.cache es → Facts es v → Took r v e → Facts (es ++ (e ∷ [])) e.cache
+    facts_more : (es : List (Event State)) (v : View State) (e : Event State) → v ≡ cache_after o.cache es → Facts es v → Took r v e →
+        Facts (es ++ (e ∷ [])) e.cache
     facts_more es v e is f k =
         let m = alone o in
         let x = e.asked.sector in
@@ -178,7 +192,8 @@ module _ {Setting State : Type 0} (r : Rules Setting State) where
         let c = rw (serve, f.pinned) at (costs v e.cache x len e.asked.request k.turned k.flushed) in
         let b = touching e.asked.request (serves m x len) (member x (pins o.cache.store)) in
         let more = ap (touches_of m (pins o.cache.store)) (asked_push es e) ∙ touches_push m (pins o.cache.store) (all_asked es) e.asked in
-        let low = count_more n₀ (machine v) (touches o es) b x f.frames 0 v.fetched e.cache.fetched (let q = f.counts in omega arith) c.counts in
+        let low =
+        count_more n₀ (machine v) (touches o es) b x f.frames 0 v.fetched e.cache.fetched (let q = f.counts in omega arith) c.counts in
         let counts : e.cache.fetched ≡ min (machine_fetches r o (es ++ (e ∷ []))) largest_tally = rw more (omega (arith, low)) in
         record {
           shows = k.shows ∙ rw f.shows (sym (alone_push m es e));
@@ -192,7 +207,8 @@ module _ {Setting State : Type 0} (r : Rules Setting State) where
         }
 
     -- turn by turn
-    facts_all : (past es : List (Event State)) → Facts past (cache_after o.cache past) → Each (λ us e. Took r (cache_after o.cache us) e) past es →
+    facts_all : (past es : List (Event State)) → Facts past (cache_after o.cache past) →
+        Each (λ us e. Took r (cache_after o.cache us) e) past es →
         Facts (past ++ es) (cache_after o.cache (past ++ es))
     facts_all past [] f s = rw (append-nil past) f
     facts_all past (e ∷ es) f s =
@@ -203,7 +219,8 @@ module _ {Setting State : Type 0} (r : Rules Setting State) where
     facts_of es v t = rw t.last (facts_all [] es (facts_none t.begun) t.steps)
 
     -- one turn more
-    pub taken_push : (es : List (Event State)) (v : View State) (e : Event State) → Taken r o es v → Took r v e → Taken r o (es ++ (e ∷ [])) e.cache
+    pub taken_push : (es : List (Event State)) (v : View State) (e : Event State) → Taken r o es v → Took r v e →
+        Taken r o (es ++ (e ∷ [])) e.cache
     taken_push es v e t k = record {
       begun = t.begun;
       steps = each_push (λ past d. Took r (cache_after o.cache past) d) [] es e t.steps (rw t.last at k);

@@ -34,7 +34,8 @@ reported_asked (next k rest) = rw (k.asked, reported_asked rest)
 
 -- turns whose events are those of the disk alone are answered as it answers them
 module _ {State : Type 0} (m : Meaning) where
-  answered : {t t' : Turn} {e : Event State} (past : List (Event State)) → Report t t' e → AsAlone m past e → Answered m (all_asked past) t t'
+  answered : {t t' : Turn} {e : Event State} (past : List (Event State)) → Report t t' e → AsAlone m past e →
+      Answered m (all_asked past) t t'
   answered past k a = record {
     task = k.back.task;
     request = k.back.request;
@@ -56,14 +57,16 @@ module _ {D P Setting : Type 0} (d : disks.Ghosts D) (p : policies.Ghosts P Sett
   reported (more k rest) = next k.report (reported rest)
 
   taken_all : {c c' : Cache D P} {ts ts' : List Turn} {es : List (Event p.State)} → TakesTurns d p c ts ts' es c' →
-      (o : Origin Setting p.State) (past : List (Event p.State)) → Taken p.rules o past (view d p c) → Taken p.rules o (past ++ es) (view d p c')
+      (o : Origin Setting p.State) (past : List (Event p.State)) → Taken p.rules o past (view d p c) →
+      Taken p.rules o (past ++ es) (view d p c')
   taken_all none o past t = rw (append-nil past) t
   taken_all (more {e = e} {es = es} k rest) o past t =
       rw (append_assoc past (e ∷ []) es) at
       (taken_all rest o (past ++ (e ∷ [])) (subst (Taken p.rules o (past ++ (e ∷ []))) k.leaves (taken_push p.rules o past _ e t k.took)))
 
   -- a run, from its start and the turns taken
-  pub ran : Conservative p.rules → (s : SetUpCache D P) (c c' : Cache D P) (ts ts' : List Turn) (es : List (Event p.State)) → Begins d p s c → TakesTurns d p c ts ts' es c' → Runs d p s ts ts' c'
+  pub ran : Conservative p.rules → (s : SetUpCache D P) (c c' : Cache D P) (ts ts' : List Turn) (es : List (Event p.State)) →
+      Begins d p s c → TakesTurns d p c ts ts' es c' → Runs d p s ts ts' c'
   ran law s c c' ts ts' es b k = record {
     ran = λ setting first.
         let o = origin d p s setting in
@@ -81,7 +84,8 @@ module _ {D P Setting : Type 0} (d : disks.Ghosts D) (p : policies.Ghosts P Sett
         };
   }
 
-  turns_push : {c c' c'' : Cache D P} {ts ts' : List Turn} {es : List (Event p.State)} {t t' : Turn} {e : Event p.State} → TakesTurns d p c ts ts' es c' →
+  turns_push : {c c' c'' : Cache D P} {ts ts' : List Turn} {es : List (Event p.State)} {t t' : Turn} {e : Event p.State} →
+      TakesTurns d p c ts ts' es c' →
       TakesTurn d p c' t t' e c'' → TakesTurns d p c (ts ++ (t ∷ [])) (ts' ++ (t' ∷ [])) (es ++ (e ∷ [])) c''
   turns_push none q = more q none
   turns_push (more k rest) q = more k (turns_push rest q)

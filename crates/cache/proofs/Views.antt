@@ -1,5 +1,6 @@
 -- Views: each step keeps them sound, and what it does to what they show.
-use Rattle.std.proofs.Common.{◌≡◌, ℕ, ◌+◌, ◌-◌, ◌<◌, ◌≤◌, Bool, true, false, cond, not, ◌&&◌, ◌||◌, eqb, ltb, List, length, is_ok, Some, Ok, Result, sym, refl, ap, ◌∙◌, subst, inl, inr, arith}
+use Rattle.std.proofs.Common.{◌≡◌, ℕ, ◌+◌, ◌-◌, ◌<◌, ◌≤◌, Bool, true, false, cond, not, ◌&&◌, ◌||◌, eqb, ltb, List, length, is_ok, Some, Ok}
+use Rattle.std.proofs.Common.{Result, sym, refl, ap, ◌∙◌, subst, inl, inr, arith}
 use Rattle.std.proofs.lemmas.Bool.{cases_Bool, cases_lt, lt-ltb, le-ltb, ltb-true, ltb-false, or_parts, true≢false}
 use Rattle.std.proofs.lemmas.Option.{cond_some}
 use Rattle.base.specs.Lists.{member, place_in, found_in}
@@ -10,14 +11,18 @@ use Rattle.disk.specs.Meaning.{Meaning, Sized, answer, serves, raised, written_o
 use Rattle.disk.proofs.Served.{live_served, answer_live}
 use Rattle.cache.specs.Places.{used as in_use, place_at, held, pins, framed, installed, is_dirty}
 use Rattle.cache.specs.View.{View, Sound, seen, machine}
-use Rattle.cache.specs.Steps.{used_frame, used_view, placed_view, looked_view, vacated_view, fetched_view, touched_view, next_place, place_of, with_place}
+use Rattle.cache.specs.Steps.{used_frame, used_view, placed_view, looked_view, vacated_view, fetched_view, touched_view, next_place}
+use Rattle.cache.specs.Steps.{place_of, with_place}
 use Rattle.cache.specs.Requests.{fetched_below, puts_out}
 use Rattle.cache.proofs.Keys.{member_cut, place_front, place_back, put_back, put_front}
 use Rattle.cache.proofs.Dirty.{has_sector, and_true, installed_dirty, cleaned_still}
-use Rattle.cache.proofs.Stores.{Absent, HeldAt, held_length, absent_from, at_place, cleaned_used, cleaned_held, cleaned_at, cleaned_holds, cleaned_shows, replaced_other, installed_used, installed_holds, installed_shows, installed_held, used_f, sector_f}
+use Rattle.cache.proofs.Stores.{Absent, HeldAt, held_length, absent_from, at_place, cleaned_used, cleaned_held, cleaned_at, cleaned_holds}
+use Rattle.cache.proofs.Stores.{cleaned_shows, replaced_other, installed_used, installed_holds, installed_shows, installed_held, used_f}
+use Rattle.cache.proofs.Stores.{sector_f}
 
 -- two disks of one shape that show the same
-pub same_meaning : (m : Meaning) (b : ℕ → List ℕ) → b ≡ m.bytes → ◌≡◌ {A = Meaning} (record { count = m.count; bytes = b; dead = m.dead; reads = m.reads; writes = m.writes }) m
+pub same_meaning : (m : Meaning) (b : ℕ → List ℕ) → b ≡ m.bytes →
+    ◌≡◌ {A = Meaning} (record { count = m.count; bytes = b; dead = m.dead; reads = m.reads; writes = m.writes }) m
 same_meaning m b e = rw e
 
 -- 512 bytes written leave every sector with 512 bytes
@@ -43,7 +48,8 @@ module _ {Setting State : Type 0} (r : Rules Setting State) (shape : Shape r) wh
         ]
 
     -- the frames filled after it
-    pub placed_filled : r.filled (r.placed v.policy) + v.store.pinned ≡ cond (ltb (next_place r v) (in_use v.store)) (in_use v.store) (in_use v.store + 1)
+    pub placed_filled : r.filled (r.placed v.policy) + v.store.pinned ≡ cond (ltb (next_place r v) (in_use v.store)) (in_use v.store)
+        (in_use v.store + 1)
     placed_filled =
         let p = s.placing in let w = shape.within v.policy p.reached in
         elim (cases_lt (r.filled v.policy) (r.frames v.policy)) [
@@ -82,7 +88,8 @@ module _ {Setting State : Type 0} (r : Rules Setting State) (shape : Shape r) wh
     pub dead : w.below.dead ≡ v.below.dead
     pub bytes : w.below.bytes x ≡ v.below.bytes x
     pub fetched : w.fetched ≡ v.fetched
-    pub below : w.below ≡ cond (ltb p (in_use v.store) && (place_at v.store p).dirty) (written_one v.below (place_at v.store p).sector (place_at v.store p).block) v.below
+    pub below : w.below ≡ cond (ltb p (in_use v.store) && (place_at v.store p).dirty)
+        (written_one v.below (place_at v.store p).sector (place_at v.store p).block) v.below
     pub clean : p < in_use w.store → (place_at w.store p).dirty ≡ false
     pub dirty : (y : ℕ) → (is_dirty w.store y && not (has_sector w.store p y)) ≡ (is_dirty v.store y && not (has_sector v.store p y))
 
@@ -108,7 +115,24 @@ module _ {Setting State : Type 0} (r : Rules Setting State) (shape : Shape r) wh
         bytes = replaced_other v.below.bytes _ x _ (λ k. none p low (sym k));
         clean = λ h. cleaned_at v.store p low;
       })
-      | inr d ↦ rw (e, d) (record { sound = s; shows = refl; policy = refl; holds = refl; pinned = refl; count = refl; dead = refl; bytes = refl; fetched = refl; below = rw (e, d); clean = λ h. d; dirty = λ y. refl })
+      | inr d ↦
+          rw (
+            e,
+            d,
+          ) (record {
+            sound = s;
+            shows = refl;
+            policy = refl;
+            holds = refl;
+            pinned = refl;
+            count = refl;
+            dead = refl;
+            bytes = refl;
+            fetched = refl;
+            below = rw (e, d);
+            clean = λ h. d;
+            dirty = λ y. refl;
+          })
     ]
     | inr e ↦ rw e (record {
       sound = s;
@@ -138,7 +162,13 @@ module _ {Setting State : Type 0} (r : Rules Setting State) (shape : Shape r) wh
         let q = s.placing in
         let a = shape.placed_frames w.policy q.reached in
         record {
-          placing = record { reached = placed q.reached; most = omega arith; few = q.few; filled = rw (installed_used w.store s.holding x p none next, is) (placed_filled w s) };
+          placing =
+              record {
+                reached = placed q.reached;
+                most = omega arith;
+                few = q.few;
+                filled = rw (installed_used w.store s.holding x p none next, is) (placed_filled w s);
+              };
           holding = installed_holds w.store s.holding x p none next inside live sized;
           sizes = s.sizes;
           tallied = s.tallied;
@@ -159,7 +189,8 @@ module _ {Setting State : Type 0} (r : Rules Setting State) (shape : Shape r) wh
     pub placed_at : HeldAt (placed_view r w p x (w.below.bytes x)).store x p
     placed_at = (used_f w.store s.holding x p none next, sector_f w.store s.holding x p none next)
 
-    pub placed_dirty : (y : ℕ) → is_dirty (placed_view r w p x (w.below.bytes x)).store y ≡ (is_dirty w.store y && not (has_sector w.store p y))
+    pub placed_dirty : (y : ℕ) →
+        is_dirty (placed_view r w p x (w.below.bytes x)).store y ≡ (is_dirty w.store y && not (has_sector w.store p y))
     placed_dirty = installed_dirty w.store s.holding x p none next placed_sound.holding.apart
 
   -- what holds of a view w that is v after a fetch of x into place p
@@ -180,7 +211,9 @@ module _ {Setting State : Type 0} (r : Rules Setting State) (shape : Shape r) wh
       let none = absent_from v.store x out in
       let u = looked_view v in
       let w = vacated_view u p in
-      let q : Vacated u w p x = vacated_is u p x (record { placing = s.placing; holding = s.holding; sizes = s.sizes; tallied = (omega arith, s.tallied.1) }) none in
+      let q : Vacated u w p x =
+      vacated_is u p x (record { placing = s.placing; holding = s.holding; sizes = s.sizes; tallied = (omega arith, s.tallied.1) })
+      none in
       let l = live_served v.below x 512 served in
       let inside : x < w.below.count = rw q.count l.inside in
       let live : w.below.dead x ≡ false = rw q.dead l.live in

@@ -26,7 +26,8 @@ module _ (image : List ℕ) (x : ℕ) (buffer : List ℕ) (inside : x < length i
   sector_same : sector_of (image_written image x buffer) x ≡ buffer
   sector_same =
       let e = sector_ends (length image) x inside in
-      ap (take 512) (drop_at (take (x * 512) image) (buffer ++ drop (x * 512 + 512) image) (x * 512) (length-take-le (x * 512) image (omega arith))) ∙
+      ap (take 512)
+      (drop_at (take (x * 512) image) (buffer ++ drop (x * 512 + 512) image) (x * 512) (length-take-le (x * 512) image (omega arith))) ∙
       take_at buffer (drop (x * 512 + 512) image) 512 sized
 
   sector_below : (y : ℕ) → y < x → sector_of (image_written image x buffer) y ≡ sector_of image y
@@ -59,7 +60,8 @@ module _ (image : List ℕ) (x : ℕ) (buffer : List ℕ) (inside : x < length i
   written_meaning dead reads writes = rw (written_length, written_sectors)
 
 -- a served write on a disk over an image
-pub image_after : (image dead : List ℕ) (reads writes x : ℕ) (buffer : List ℕ) → Ok tt ≡ answer (image_of image dead reads writes) x (length buffer) →
+pub image_after : (image dead : List ℕ) (reads writes x : ℕ) (buffer : List ℕ) →
+    Ok tt ≡ answer (image_of image dead reads writes) x (length buffer) →
     image_of (image_written image x buffer) dead reads (raised writes) ≡ after_write (image_of image dead reads writes) x buffer
 image_after image dead reads writes x buffer e =
     let m = image_of image dead reads writes in
@@ -73,11 +75,13 @@ pub disk_written : (image dead : List ℕ) (reads writes x : ℕ) (buffer image'
     image_of image' dead reads writes' ≡ after_write (image_of image dead reads writes) x buffer
 disk_written image dead reads writes x buffer image' writes' e w n = rw (w, n) (image_after image dead reads writes x buffer e)
 
-pub image_put : (image dead : List ℕ) (reads writes x : ℕ) (buffer image' : List ℕ) → Ok tt ≡ answer (image_of image dead reads writes) x (length buffer) →
+pub image_put : (image dead : List ℕ) (reads writes x : ℕ) (buffer image' : List ℕ) →
+    Ok tt ≡ answer (image_of image dead reads writes) x (length buffer) →
     image' ≡ image_written image x buffer →
     image' ≡ cond (serves (image_of image dead reads writes) x (length buffer)) (image_written image x buffer) image
 image_put image dead reads writes x buffer image' e w =
-    w ∙ sym (cond-true (serves (image_of image dead reads writes) x (length buffer)) (image_written image x buffer) image (served (image_of image dead reads writes) x (length buffer) e))
+    w ∙ sym (cond-true (serves (image_of image dead reads writes) x (length buffer)) (image_written image x buffer) image
+    (served (image_of image dead reads writes) x (length buffer) e))
 
 -- each sector of an image has 512 bytes
 pub image_sized : (image : List ℕ) (x : ℕ) → x < whole_sectors image → length (sector_of image x) ≡ 512

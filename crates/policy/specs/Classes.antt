@@ -116,7 +116,8 @@ raised_later us vs f i t j (suc n) top low high =
     ]
 
 -- lowering the count of the first frame and moving it to the end changes nothing
-pub lowered_same : (ps : List Counted) (f i j n : ℕ) → j ≤ i → suc i < j + n → classes ((f, suc i) ∷ ps) j n ≡ classes (ps ++ ((f, i) ∷ [])) j n
+pub lowered_same : (ps : List Counted) (f i j n : ℕ) → j ≤ i → suc i < j + n →
+    classes ((f, suc i) ∷ ps) j n ≡ classes (ps ++ ((f, i) ∷ [])) j n
 unfolding classes with_count
 lowered_same ps f i j zero low high = absurd (omega arith)
 lowered_same ps f i j (suc zero) low high = absurd (omega arith)

@@ -29,7 +29,8 @@ unfolding with_counts
 counted_at counts xs ys f = counted_append counts xs (f ∷ ys)
 
 -- a new count of f changes nothing at the others
-counted_set : (counts xs : List ℕ) (f v : ℕ) → AllByRecursion (λ x. x ≢ f) xs → with_counts (slice_set counts f v) xs ≡ with_counts counts xs
+counted_set : (counts xs : List ℕ) (f v : ℕ) → AllByRecursion (λ x. x ≢ f) xs →
+    with_counts (slice_set counts f v) xs ≡ with_counts counts xs
 unfolding with_counts
 counted_set counts [] f v h = refl
 counted_set counts (x ∷ xs) f v h = rw (get_or-set_other counts f x v 0 h.0, counted_set counts xs f v h.1)
@@ -51,7 +52,8 @@ kept_both p q [] = refl
 kept_both p q (x ∷ xs) = grind (arith, kept_both p q xs)
 
 -- the frames with count j, taken before their counts are added
-kept_counted : (counts : List ℕ) (j : ℕ) (xs : List ℕ) → filter (λ f. nat_eq (slice_index counts f) j) xs ≡ with_count j (with_counts counts xs)
+kept_counted : (counts : List ℕ) (j : ℕ) (xs : List ℕ) →
+    filter (λ f. nat_eq (slice_index counts f) j) xs ≡ with_count j (with_counts counts xs)
 unfolding with_counts with_count
 kept_counted counts j [] = refl
 kept_counted counts j (x ∷ xs) = grind (arith, kept_counted counts j xs)

@@ -53,7 +53,8 @@ HoldsOneOf whole keys f = (f < length keys) × (member (slice_index keys f) whol
 holds_push : (whole keys : List ℕ) (x f : ℕ) → HoldsOneOf whole keys f → HoldsOneOf whole (keys ++ (x ∷ [])) f
 holds_push whole keys x f h = (simp length_push (omega arith), rw (get_or_append_left keys (x ∷ []) 0 f h.0) h.1)
 
-holds_set : (whole keys : List ℕ) (x g : ℕ) → member x whole ≡ true → (f : ℕ) → HoldsOneOf whole keys f → HoldsOneOf whole (slice_set keys g x) f
+holds_set : (whole keys : List ℕ) (x g : ℕ) → member x whole ≡ true → (f : ℕ) → HoldsOneOf whole keys f →
+    HoldsOneOf whole (slice_set keys g x) f
 holds_set whole keys x g w f h = (
   simp length-set h.0,
   ⊎_elim (λ e. rw (e, get_or-set_same keys g x 0 (rw e at h.0)) w) (λ n. rw (get_or-set_other keys g f x 0 n) h.1) (cases_eq f g),

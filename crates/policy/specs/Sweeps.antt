@@ -43,7 +43,8 @@ module _ (s : CountState) (v : CountValid s) (full : s.filled ≡ s.size) where
   }
 
   -- the order as the hand stands
-  pub here_order : count_order s ≡ classes ((s.hand, slice_index s.counts s.hand) ∷ with_counts s.counts (after_hand s.size s.hand)) 0 (suc s.top)
+  pub here_order : count_order s ≡ classes ((s.hand, slice_index s.counts s.hand) ∷ with_counts s.counts (after_hand s.size s.hand)) 0
+      (suc s.top)
   unfolding with_counts
   here_order = order_of s _ (frames_full s v.hand_within full ∙ circle_here s.size s.hand v.hand_within)
 

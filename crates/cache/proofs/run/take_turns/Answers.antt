@@ -9,7 +9,8 @@ pub loop-turn-preserved : goal.loop-turn-preserved
 loop-turn-preserved g c =
     let h : c.loop-turn.turn-index < length c.loop-turn.turns = omega arith in (
       c.take_turn.ensures.kept,
-      taking_more g.D.Disk g.P.Policy _ _ _ _ _ c.loop-turn.invariant.1 c.turn-item.result _ c.take_turn.new.turn _ h refl c.take_turn.ensures.takes,
+      taking_more g.D.Disk g.P.Policy _ _ _ _ _ c.loop-turn.invariant.1 c.turn-item.result _ c.take_turn.new.turn _ h refl
+          c.take_turn.ensures.takes,
     )
 
 pub returns-clause-runs : goal.returns-clause-runs

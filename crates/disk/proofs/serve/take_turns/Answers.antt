@@ -11,7 +11,8 @@ pub loop-turn-preserved : goal.loop-turn-preserved
 loop-turn-preserved g c =
     let h : c.loop-turn.turn-index < length c.loop-turn.turns = omega arith in (
       c.take_turn.ensures.kept,
-      running_more _ _ _ _ _ c.loop-turn.invariant.1 c.turn-item.result _ c.take_turn.new.turn _ h refl c.take_turn.ensures.done c.take_turn.ensures.after,
+      running_more _ _ _ _ _ c.loop-turn.invariant.1 c.turn-item.result _ c.take_turn.new.turn _ h refl c.take_turn.ensures.done
+          c.take_turn.ensures.after,
     )
 
 pub returns : goal.returns

@@ -25,7 +25,8 @@ returns g c =
     let v = view g.D.Disk g.P.Policy c.args.self.now in
     let w = view g.D.Disk g.P.Policy c.loop-place.self in
     let e : c.loop-place.place ≡ used v.store = omega arith in
-    let q : Flushing r shape v w (used v.store) = rw e at (flushing_at r shape v w c.loop-place.place c.requires.own (omega arith) c.loop-place.invariant.1) in
+    let q : Flushing r shape v w (used v.store) =
+    rw e at (flushing_at r shape v w c.loop-place.place c.requires.own (omega arith) c.loop-place.invariant.1) in
     let f = flushed_is r shape v w c.requires.own q in
     record {
       kept = record { under = c.loop-place.invariant.0; own = q.sound };

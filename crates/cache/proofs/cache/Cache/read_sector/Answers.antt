@@ -10,7 +10,8 @@ use Rattle.cache.proofs.cache.Cache.read_sector.Goals.{After-place_for}
 
 -- the request, once its place is found
 after : (g : given.Over) (c : After-place_for g) →
-    AfterTouch g.P.Policy.rules (view g.D.Disk g.P.Policy c.args.self.now) (view g.D.Disk g.P.Policy c.place_for.new.self) c.args.sector c.args.buffer.now
+    AfterTouch g.P.Policy.rules (view g.D.Disk g.P.Policy c.args.self.now) (view g.D.Disk g.P.Policy c.place_for.new.self) c.args.sector
+    c.args.buffer.now
 after g c = record { shape = g.met.P.Policy.shape; sound = c.requires.own; is = c.place_for.ensures.after }
 
 pub returns-in_err-place : goal.returns-in_err-place

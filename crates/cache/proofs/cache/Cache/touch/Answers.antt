@@ -9,8 +9,10 @@ use_frame-requires-clause-filled g c =
 
 pub returns-then-place-self-clause-answers : goal.returns-then-place-self-clause-answers
 returns-then-place-self-clause-answers g c =
-    hit_answers g.P.Policy.rules g.met.P.Policy.shape (view g.D.Disk g.P.Policy c.args.self.now) c.args.sector c.requires.own c.in-Some.place c.in-Some.ensures
+    hit_answers g.P.Policy.rules g.met.P.Policy.shape (view g.D.Disk g.P.Policy c.args.self.now) c.args.sector c.requires.own
+    c.in-Some.place c.in-Some.ensures
 
 pub returns-else-place-self-clause-answers : goal.returns-else-place-self-clause-answers
 returns-else-place-self-clause-answers g c =
-    hit_answers g.P.Policy.rules g.met.P.Policy.shape (view g.D.Disk g.P.Policy c.args.self.now) c.args.sector c.requires.own c.in-Some.place c.in-Some.ensures
+    hit_answers g.P.Policy.rules g.met.P.Policy.shape (view g.D.Disk g.P.Policy c.args.self.now) c.args.sector c.requires.own
+    c.in-Some.place c.in-Some.ensures

@@ -13,7 +13,9 @@ returns-clause-ready g c =
     let none : used s ≡ 0 = ap length c.new-store.ensures.empty in
     record {
       under = c.requires;
-      own = empty_sound g.P.Policy.rules g.met.P.Policy.shape c.args.setting (frames_of k) k.some k.most _ _ s c.count.ensures.sized c.tallies.ensures.bounded first c.new-store.ensures.empty c.new-store.ensures.pinned;
+      own =
+          empty_sound g.P.Policy.rules g.met.P.Policy.shape c.args.setting (frames_of k) k.some k.most _ _ s c.count.ensures.sized
+          c.tallies.ensures.bounded first c.new-store.ensures.empty c.new-store.ensures.pinned;
       setting = c.args.setting;
       first = first;
       unfilled = none ∙ sym c.new-store.ensures.pinned;

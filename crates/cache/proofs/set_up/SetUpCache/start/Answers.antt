@@ -18,5 +18,7 @@ returns-clause-begins g c =
       same = same;
       below = e.parts.0;
       bytes = ap (λ (u : View g.P.Policy.State). (seen u).bytes) same ∙ idle_shows g.D.Disk g.P.Policy shape s q;
-      taken = λ setting first. subst (Taken g.P.Policy.rules (origin g.D.Disk g.P.Policy s setting) []) (sym same) (idle_taken g.D.Disk g.P.Policy shape s q setting first);
+      taken =
+          λ setting first. subst (Taken g.P.Policy.rules (origin g.D.Disk g.P.Policy s setting) []) (sym same)
+          (idle_taken g.D.Disk g.P.Policy shape s q setting first);
     }

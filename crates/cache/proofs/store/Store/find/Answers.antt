@@ -9,5 +9,6 @@ pub returns : goal.returns
 returns c =
     let x = c.args.sector in
     let ps = c.args.self.now.places.items in
-    position_from_yields_List (λ (p : Place). nat_eq p.sector x) _ _ c.position.result c.position.ensures.ran (YieldsList-from_slice ps (cc)) (λ p b q k. search (rules, tests)) ∙
+    position_from_yields_List (λ (p : Place). nat_eq p.sector x) _ _ c.position.result c.position.ensures.ran
+    (YieldsList-from_slice ps (cc)) (λ p b q k. search (rules, tests)) ∙
     position_found (λ (p : Place). p.sector) x ps
