@@ -1,5 +1,6 @@
 -- Closing the gap that a freed slot leaves.
-use Rattle.std.proofs.Common.{◌≡◌, ℕ, ◌+◌, ◌%◌, ◌<◌, ◌≤◌, true, List, length, get_or, set, Option, is_some, Some, None, sym, ◌∙◌, inl, inr, arith, length-set}
+use Rattle.std.proofs.Common.{◌≡◌, ℕ, ◌+◌, ◌<◌, ◌≤◌, true, List, length, get_or, set, Option, is_some, Some, None}
+use Rattle.std.proofs.Common.{sym, ◌∙◌, inl, inr, arith, length-set}
 use Rattle.std.proofs.lemmas.List.{get_or-set_same, get_or-set_other}
 use Rattle.std.proofs.lemmas.Option.{none-some}
 use Rattle.std.proofs.lemmas.Bool.{both_ways, cases_eq, cases_lt}
@@ -7,14 +8,15 @@ use Rattle.std.specs.List.{SwappedAt}
 use Rattle.index.specs.declared.slot.Entry.{Entry}
 use Rattle.base.specs.Rings.{onward}
 use Rattle.index.specs.Places.{steps}
-use Rattle.index.specs.Slots.{AllReached}
+use Rattle.index.specs.Slots.{home, AllReached}
+use Rattle.index.proofs.Homes.{home_below}
 use Rattle.index.proofs.Places.{steps_none, steps_same, steps_below, steps_onward, steps_round, steps_before, onward_below}
 use Rattle.index.proofs.Changes.{within_from_taken}
 
 module _ {K : Type 0} (spread : K → ℕ) (n : ℕ) where
   -- whether p comes before q on the way from the key's home
   abbrev pub Ahead : K → ℕ → ℕ → Type 0
-  Ahead k p q = steps n (spread k % n) p < steps n (spread k % n) q
+  Ahead k p q = steps n (home spread n k) p < steps n (home spread n k) q
 
   -- the slots while the gap is at hole: each key is reached but for the hole,
   -- and no key in a slot after the hole, up to the last one looked at, has the hole on its way
@@ -23,15 +25,18 @@ module _ {K : Type 0} (spread : K → ℕ) (n : ℕ) where
     pub inside : hole < n
     pub looked : last < n
     pub free : get_or xs hole None ≡ None
-    pub across : (q : ℕ) (x : Entry K) → get_or xs q None ≡ Some x → (p : ℕ) → p < n → (p ≡ hole → ⊥) → Ahead x.key p q → is_some (get_or xs p None) ≡ true
+    pub across : (q : ℕ) (x : Entry K) → get_or xs q None ≡ Some x →
+        (p : ℕ) → p < n → (p ≡ hole → ⊥) → Ahead x.key p q → is_some (get_or xs p None) ≡ true
     pub clear : (q : ℕ) (x : Entry K) → get_or xs q None ≡ Some x → steps n hole q ≤ steps n hole last → Ahead x.key hole q → ⊥
 
   -- the slots with one freed that were in order before
-  pub gap_none : (xs : List (Option (Entry K))) (place : ℕ) → length xs ≡ n → place < n → AllReached spread xs → Gap (set xs place None) place place
+  pub gap_none : (xs : List (Option (Entry K))) (place : ℕ) → length xs ≡ n → place < n → AllReached spread xs →
+      Gap (set xs place None) place place
   gap_none xs place long inside reached =
       let fits : place < length xs = rw long inside in
       let free = get_or-set_same xs place None None fits in
-      let kept : (p : ℕ) → (p ≡ place → ⊥) → get_or (set xs place None) p None ≡ get_or xs p None = λ p off. get_or-set_other xs place p None None off in
+      let kept : (p : ℕ) → (p ≡ place → ⊥) → get_or (set xs place None) p None ≡ get_or xs p None =
+      λ p off. get_or-set_other xs place p None None off in
       let reaches = rw long at reached in
       let apart : (q : ℕ) (x : Entry K) → get_or (set xs place None) q None ≡ Some x → q ≡ place → ⊥ =
       λ q x e at. none-some x (sym (rw at free) ∙ e) in
@@ -75,14 +80,14 @@ module _ {K : Type 0} (spread : K → ℕ) (n : ℕ) where
       pub closed_free : get_or xs next None ≡ None → AllReached spread xs
       closed_free free = closed (λ q x held b.
           let in-q = below q x held in
-          let home = spread x.key % n in
-          let in-home : home < n = omega arith in
+          let from = home spread n x.key in
+          let in-home = home_below spread n x.key (omega (arith, in-q)) in
           let more = step in
           elim (cases_lt (steps n hole last) (steps n hole q)) [
             | inr near ↦ gap.clear q x held near b
             | inl far ↦ elim (cases_lt (steps n hole next) (steps n hole q)) [
               | inl past ↦ both_ways (is_some (get_or xs next None)) (rw free)
-                  (gap.across q x held next in_next other (steps_before n home hole next q in-home gap.inside in_next in-q b past))
+                  (gap.across q x held next in_next other (steps_before n from hole next q in-home gap.inside in_next in-q b past))
               | inr here ↦
                   let same : steps n hole q ≡ steps n hole next = omega arith in
                   none-some x (sym (rw (steps_same n hole q next gap.inside in-q in_next same) free) ∙ held)
@@ -111,7 +116,8 @@ module _ {K : Type 0} (spread : K → ℕ) (n : ℕ) where
         }
 
         -- the next slot's key moves into the hole, and its slot is the new one
-        pub gap_moves : (ys : List (Option (Entry K))) → Ahead x.key hole next → length ys ≡ length xs → SwappedAt xs ys hole next → Gap ys next next
+        pub gap_moves : (ys : List (Option (Entry K))) → Ahead x.key hole next → length ys ≡ length xs →
+            SwappedAt xs ys hole next → Gap ys next next
         gap_moves ys on same-long (filled, freed, rest, _) = record {
           long = same-long ∙ gap.long;
           inside = in_next;
@@ -120,10 +126,10 @@ module _ {K : Type 0} (spread : K → ℕ) (n : ℕ) where
           across = λ q y e p l off b. elim (cases_eq p hole) [
             | inl at ↦ rw (at, filled None, held)
             | inr apart ↦ rw (rest p None apart off) (elim (cases_eq q hole) [
-              | inl home ↦
+              | inl at-hole ↦
                   let moved = filled None in
                   let one : y ≡ x = cc in
-                  let b' : Ahead x.key p hole = rw (home, one) at b in
+                  let b' : Ahead x.key p hole = rw (at-hole, one) at b in
                   gap.across next x held p l apart (omega arith)
               | inr far ↦ elim (cases_eq q next) [
                 | inl at ↦ absurd (none-some y (sym (rw at (freed None ∙ gap.free)) ∙ e))

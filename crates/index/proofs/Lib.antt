@@ -1,4 +1,5 @@
 pub mod Places
+pub mod Homes
 pub mod Counts
 pub mod Changes
 pub mod Finites

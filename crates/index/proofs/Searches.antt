@@ -1,5 +1,6 @@
 -- Looking for a key from its home upward: what is known of the slots that were passed.
-use Rattle.std.proofs.Common.{◌≡◌, ℕ, suc, ◌<◌, Bool, true, false, List, [], ◌∷◌, length, get_or, Option, is_some, Some, None, count_by, sym, refl, inl, inr, arith}
+use Rattle.std.proofs.Common.{◌≡◌, ℕ, suc, ◌<◌, Bool, true, false, List, [], ◌∷◌, length, get_or, Option, is_some, Some, None}
+use Rattle.std.proofs.Common.{count_by, sym, refl, inl, inr, arith}
 use Rattle.std.proofs.lemmas.Bool.{both_ways, cases_order, ne_eqb, false≢true}
 use Rattle.std.proofs.lemmas.Bool.Decides.{nat_tests}
 use Rattle.index.specs.declared.slot.Entry.{Entry}
@@ -7,6 +8,7 @@ use Rattle.index.specs.Places.{steps}
 use Rattle.index.specs.Slots.{holds, home, AllReached}
 use Rattle.index.specs.Probes.{Absent, Open, Stops, passes}
 use Rattle.index.proofs.Counts.{count_by-cons}
+use Rattle.index.proofs.Homes.{home_below}
 use Rattle.index.proofs.Places.{steps_same}
 
 -- a test that holds of no element, and one that holds of each
@@ -15,7 +17,8 @@ count_none t d [] h = refl
 count_none t d (x ∷ xs) h =
     grind (arith, count_by-cons, h 0 (omega arith), count_none t d xs (λ i l. h (suc i) (omega arith)))
 
-count_each : {X : Type 0} (t : X → Bool) (d : X) (xs : List X) → ((i : ℕ) → i < length xs → t (get_or xs i d) ≡ true) → count_by t xs ≡ length xs
+count_each : {X : Type 0} (t : X → Bool) (d : X) (xs : List X) → ((i : ℕ) → i < length xs → t (get_or xs i d) ≡ true) →
+    count_by t xs ≡ length xs
 count_each t d [] h = refl
 count_each t d (x ∷ xs) h =
     grind (arith, count_by-cons, h 0 (omega arith), count_each t d xs (λ i l. h (suc i) (omega arith)))
@@ -32,7 +35,7 @@ module _ {K : Type 0} (code : K → ℕ) (c : ℕ) where
 module _ {K : Type 0} (code spread : K → ℕ) (xs : List (Option (Entry K))) (key : K) where
   -- how many steps lead from the key's home to a place
   abbrev way : ℕ → ℕ
-  way place = steps (length xs) (home spread xs key) place
+  way place = steps (length xs) (home spread (length xs) key) place
 
   -- every slot is taken by another key
   pub full_from_stops : Stops code spread xs key None → Absent code xs key × (count_by is_some xs ≡ length xs)
@@ -46,15 +49,16 @@ module _ {K : Type 0} (code spread : K → ℕ) (xs : List (Option (Entry K))) (
   other_slot (Some x) h = ne_eqb (code key) (code x.key) (λ e. h x refl (sym e))
 
   -- behind a free slot the key is not reached, so it is nowhere
-  pub open_from_stops : ((a b : K) → code a ≡ code b → a ≡ b) → AllReached spread xs → (place : ℕ) → Stops code spread xs key (Some place) → get_or xs place None ≡ None → Open code spread xs key place
+  pub open_from_stops : ((a b : K) → code a ≡ code b → a ≡ b) → AllReached spread xs → (place : ℕ) →
+      Stops code spread xs key (Some place) → get_or xs place None ≡ None → Open code spread xs key place
   open_from_stops faithful reached place (within, stops, passed) free =
-      let below : home spread xs key < length xs = omega (arith, within) in
+      let below = home_below spread (length xs) key (omega (arith, within)) in
       record {
         within = within;
         free = free;
         absent = count_none (holds code (code key)) None xs
             (λ p l. elim (cases_order (way p) (way place)) [
-              | inl e ↦ rw (steps_same (length xs) (home spread xs key) p place below l within e, free)
+              | inl e ↦ rw (steps_same (length xs) (home spread (length xs) key) p place below l within e, free)
               | inr (inl lt) ↦ passes_apart code (code key) (get_or xs p None) (passed p l lt)
               | inr (inr gt) ↦ other_slot (get_or xs p None) (λ x e same.
                   let t : is_some (get_or xs place None) ≡ true = reached p x e place within (rw (faithful x.key key same) gt) in

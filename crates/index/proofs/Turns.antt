@@ -1,9 +1,10 @@
 -- One turn of closing a gap, at a taken slot.
-use Rattle.std.proofs.Common.{◌≡◌, ℕ, ◌%◌, ◌<◌, ◌≤◌, List, length, get_or, Option, Some, None, arith}
+use Rattle.std.proofs.Common.{◌≡◌, ℕ, ◌<◌, ◌≤◌, List, length, get_or, Option, Some, None, arith}
 use Rattle.std.specs.List.{SwappedAt}
 use Rattle.index.specs.declared.slot.Entry.{Entry}
 use Rattle.base.specs.Rings.{onward}
 use Rattle.index.specs.Places.{steps}
+use Rattle.index.specs.Slots.{home}
 use Rattle.index.proofs.Changes.{read_is}
 use Rattle.index.proofs.Gaps.{Ahead, Gap, gap_stays, gap_moves}
 use Rattle.index.proofs.Distances.{left, nearer, left_less}
@@ -16,24 +17,33 @@ module _ {K : Type 0} (spread : K → ℕ) (n : ℕ) where
     pub is : next ≡ onward n last
     pub other : next ≡ hole → ⊥
     pub held : get_or xs next None ≡ Some x
-    pub home : h ≡ spread x.key % length xs
+    pub home : h ≡ home spread (length xs) x.key
     pub to_hole : a ≡ steps n h hole
     pub to_next : b ≡ steps n h next
 
-  pub turned : {xs : List (Option (Entry K))} {hole last next : ℕ} {x : Entry K} {h a b : ℕ} (d : Option (Entry K)) → Gap spread n xs hole last → next ≡ onward n last → (next ≡ hole → ⊥) →
-      get_or xs next d ≡ Some x → h ≡ spread x.key % length xs → a ≡ steps n h hole → b ≡ steps n h next → Turn xs hole last next x h a b
+  pub turned : {xs : List (Option (Entry K))} {hole last next : ℕ} {x : Entry K} {h a b : ℕ} (d : Option (Entry K)) →
+      Gap spread n xs hole last → next ≡ onward n last → (next ≡ hole → ⊥) → get_or xs next d ≡ Some x →
+      h ≡ home spread (length xs) x.key → a ≡ steps n h hole → b ≡ steps n h next → Turn xs hole last next x h a b
   turned {xs = xs} {last = last} {next = next} {x = x} d gap is other read home to_hole to_next =
       let inside : next < length xs = rw (gap.long, is) (onward_below n last gap.looked) in
-      record { gap = gap; is = is; other = other; held = read_is xs next d (Some x) inside read; home = home; to_hole = to_hole; to_next = to_next }
+      record {
+        gap = gap;
+        is = is;
+        other = other;
+        held = read_is xs next d (Some x) inside read;
+        home = home;
+        to_hole = to_hole;
+        to_next = to_next;
+      }
 
   module _ {xs : List (Option (Entry K))} {hole last next : ℕ} {x : Entry K} {h a b : ℕ} (t : Turn xs hole last next x h a b) where
     inside : next < length xs
     inside = rw (t.gap.long, t.is) (onward_below n last t.gap.looked)
 
-    near : a ≡ steps n (spread x.key % n) hole
+    near : a ≡ steps n (home spread n x.key) hole
     near = rw (← t.gap.long) (rw (← t.home) (rw t.gap.long t.to_hole))
 
-    far : b ≡ steps n (spread x.key % n) next
+    far : b ≡ steps n (home spread n x.key) next
     far = rw (← t.gap.long) (rw (← t.home) (rw t.gap.long t.to_next))
 
     pub turn_stays : b ≤ a → Gap spread n xs hole next

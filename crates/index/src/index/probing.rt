@@ -16,12 +16,12 @@ pub enum Probe {
     Full,
 }
 
-// The place from which a key is looked for.
+// The place from which a key is looked for: by a multiplication and a shift, which take less than a division.
+#[tactic(auto, unfolding(crate::specs::Slots::home))]
 fn home_of<K: Key>(slots: &[Slot<K>], key: &K) -> usize
-    requires { 0 < length slots.now }
-    ensures { result ≡ home K.Key.spread slots.now key.now }
+    ensures { result ≡ home K.Key.spread (length slots.now) key.now }
 {
-    key.spread() as usize % slots.len()
+    ((u128::from(key.spread()) * slots.len() as u128) >> 32) as usize
 }
 
 // Whether a slot is free or holds a key with the code.
@@ -44,8 +44,8 @@ fn stop_between<K: Key>(slots: &[Slot<K>], code: u64, from: usize, to: usize) ->
 }
 
 // The first place on the way of a key whose slot is free or holds the key.
+#[tactic(auto, using(crate::proofs::Homes::home_within))]
 fn stop_of<K: Key>(slots: &[Slot<K>], key: &K) -> Option<usize>
-    requires { 0 < length slots.now }
     ensures { Stops K.Key.code K.Key.spread slots.now key.now result }
 {
     let code = key.code();
@@ -61,9 +61,6 @@ pub fn look_up<K: Key>(slots: &[Slot<K>], key: &K) -> Probe
     requires { AllReached K.Key.spread slots.now }
     ensures { Probed K.Key.code K.Key.spread slots.now key.now result }
 {
-    if slots.is_empty() {
-        return Probe::Full;
-    }
     let Some(place) = stop_of(slots, key) else {
         return Probe::Full;
     };
@@ -79,6 +76,7 @@ pub fn look_up<K: Key>(slots: &[Slot<K>], key: &K) -> Probe
 // Frees a slot, and closes the gap: a later key whose way leads across the free slot moves into it, which frees
 // its own. This ends at a slot that was free before, or in a full table after a whole round without a move,
 // which can be more than one round in all.
+#[tactic(auto, using(crate::proofs::Homes::home_below))]
 pub fn vacate<K: Key>(slots: &mut [Slot<K>], place: usize)
     requires within { place < length slots.old }
     requires reached { AllReached K.Key.spread slots.old }

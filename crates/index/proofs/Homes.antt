@@ -1,0 +1,18 @@
+-- A key's home is one of the places. No other proof looks at how it is computed.
+use Rattle.std.proofs.Common.{ℕ, ◌*◌, ◌%◌, ◌^◌, ◌<◌, ◌≤◌, mul-le-mul_right, arith}
+use Rattle.std.proofs.Math.Nat.{mul-lt-mul_of_pos_right}
+use Rattle.index.specs.Slots.{home}
+
+module _ {K : Type 0} (spread : K → ℕ) (places : ℕ) (key : K) where
+  pub home_below : 0 < places → home spread places key < places
+  unfolding home
+  home_below some =
+      let less : (spread key % 2 ^ 32) * places < 2 ^ 32 * places = mul-lt-mul_of_pos_right (omega arith) some in
+      omega arith
+
+  -- where there is none, it is 0
+  pub home_within : home spread places key ≤ places
+  unfolding home
+  home_within =
+      let most : (spread key % 2 ^ 32) * places ≤ 2 ^ 32 * places = mul-le-mul_right places (omega arith) in
+      omega arith
