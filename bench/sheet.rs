@@ -1,7 +1,13 @@
-// The sheet of a trace, written plainly with the standard library's collections.
+// The sheet of a trace, written plainly with the standard library's collections. Its maps have the standard library's hash, or with
+// `--cfg multiplicative` the hash that the index of the program beside it has.
 use std::collections::{HashMap, VecDeque};
 use std::io::{self, Read, Write};
 use std::process::ExitCode;
+
+#[cfg(multiplicative)]
+use multiplied::Hashing;
+#[cfg(not(multiplicative))]
+use std::collections::hash_map::RandomState as Hashing;
 
 const FRAME_COUNTS: [usize; 6] = [1, 2, 3, 4, 8, 64];
 const MOST_BYTES: usize = 32_768;
@@ -11,6 +17,39 @@ const MOST_SECTORS: u32 = 128;
 
 /// A sector of a unit: the unit above the lower 32 bits, the sector number in them.
 type Key = u64;
+
+/// Numbers of keys.
+type Numbers = HashMap<Key, usize, Hashing>;
+
+fn numbers_for(keys: usize) -> Numbers {
+    HashMap::with_capacity_and_hasher(keys, Hashing::default())
+}
+
+/// A hash by one multiplication.
+#[cfg(multiplicative)]
+mod multiplied {
+    use std::hash::{BuildHasherDefault, Hasher};
+
+    pub type Hashing = BuildHasherDefault<Multiplied>;
+
+    #[derive(Default)]
+    pub struct Multiplied(u64);
+
+    impl Hasher for Multiplied {
+        fn write(&mut self, _bytes: &[u8]) {
+            unreachable!("a key is one u64");
+        }
+
+        fn write_u64(&mut self, code: u64) {
+            self.0 = code.wrapping_mul(0x9e37_79b9_7f4a_7c15);
+        }
+
+        /// The halves of the product, swapped: the map takes a place from the lower bits, and a tag from the topmost.
+        fn finish(&self) -> u64 {
+            self.0.rotate_left(32)
+        }
+    }
+}
 
 /// Decides which frame a fetched key goes into.
 trait Policy {
@@ -130,7 +169,7 @@ impl Policy for Clock {
 /// How many of the touches a policy fetches on so many frames.
 fn fetches<P: Policy>(keys: &[Key], frames: usize) -> usize {
     let mut policy = P::new(frames);
-    let mut frame_of: HashMap<Key, usize> = HashMap::with_capacity(frames);
+    let mut frame_of = numbers_for(frames);
     let mut held: Vec<Key> = Vec::with_capacity(frames);
     let mut fetches = 0;
     for &key in keys {
@@ -154,7 +193,7 @@ fn fetches<P: Policy>(keys: &[Key], frames: usize) -> usize {
 /// For each touch the place of its key's next touch, or the list's length where there is none.
 fn next_touches(keys: &[Key]) -> Vec<usize> {
     let mut next = vec![keys.len(); keys.len()];
-    let mut seen: HashMap<Key, usize> = HashMap::with_capacity(keys.len());
+    let mut seen = numbers_for(keys.len());
     for (place, &key) in keys.iter().enumerate().rev() {
         if let Some(later) = seen.insert(key, place) {
             next[place] = later;
@@ -165,7 +204,7 @@ fn next_touches(keys: &[Key]) -> Vec<usize> {
 
 /// How many of the touches MIN fetches on so many frames.
 fn min_fetches(keys: &[Key], next: &[usize], frames: usize) -> usize {
-    let mut frame_of: HashMap<Key, usize> = HashMap::with_capacity(frames);
+    let mut frame_of = numbers_for(frames);
     let mut held: Vec<Key> = Vec::with_capacity(frames);
     // For each filled frame, where its key is touched again.
     let mut again: Vec<usize> = Vec::with_capacity(frames);
