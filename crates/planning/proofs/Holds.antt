@@ -7,10 +7,8 @@ use Rattle.std.proofs.lemmas.List.{ext_get_or, get_or-map, get_or-take, length-m
 use Rattle.base.specs.Lists.{member, found_in, Apart}
 use Rattle.policy.specs.Machine.{put}
 use Rattle.policy.specs.Members.{member_index}
-use Rattle.index.specs.Slots.{map_of, SoundIndex}
-use Rattle.planning.specs.declared.held.HeldKeys.{HeldKeys}
-use Rattle.index.specs.Maps.{Map, empty, with_number, after_remove, has, accepts, put_answer, after_put}
-use Rattle.planning.specs.Frames.{keys_at, Shows, Room, Unfilled, without_frame}
+use Rattle.index.specs.Maps.{Map, with_number, after_remove, has, accepts, put_answer, after_put}
+use Rattle.planning.specs.Frames.{keys_at, Shows, Room, without_frame}
 use Rattle.planning.proofs.Judged.{code_at}
 
 -- one frame more, with a new key
@@ -135,8 +133,3 @@ module _ (touches hs : List ℕ) (index : Map) (keys : List ℕ) (f filled place
 
   pub shows_shown : (hs' : List ℕ) (index' : Map) (x : ℕ) → Shows touches hs' index' (put (keys_at touches hs filled) f x) → Shows touches hs' index' (put keys f x)
   shows_shown hs' index' x w = rw (shown_keys touches hs index keys filled q.shows q.counted wide) at w
-
--- frames as they are made hold no key
-pub unfilled : {K : Type 0} (code spread : K → ℕ) (frames : HeldKeys K) (places : ℕ) → SoundIndex code spread frames.index → map_of code frames.index ≡ empty places → frames.filled ≡ 0 →
-    Unfilled code spread frames
-unfilled code spread frames places s m z = record { sound = s; map = m ∙ ap empty (sym (ap (λ (n : Map). n.places) m)); none = z }

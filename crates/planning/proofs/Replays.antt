@@ -1,5 +1,5 @@
 -- The replay's pass over the touches, one after another.
-use Rattle.std.proofs.Common.{◌≡◌, ℕ, ◌+◌, ◌<◌, ◌≤◌, max, false, cond, ltb, List, [], ◌∷◌, ◌++◌, length, get_or, take, set, Some, None, Ok, sym, refl, ap, ◌∙◌, inl, inr, arith}
+use Rattle.std.proofs.Common.{◌≡◌, ℕ, ◌+◌, ◌<◌, ◌≤◌, min, max, false, cond, ltb, List, [], ◌∷◌, ◌++◌, length, get_or, take, set, Some, None, Ok, sym, refl, ap, ◌∙◌, inl, inr, arith}
 use Rattle.std.proofs.lemmas.Option.{cond_some}
 use Rattle.std.proofs.lemmas.List.{take_all, take_more, length-take-le, length_push, length-set}
 use Rattle.std.proofs.lemmas.Bool.{cases_Bool, cases_lt, lt-ltb, cond_both}
@@ -79,8 +79,12 @@ module _ {Setting State : Type 0} (r : Rules Setting State) (m₀ : Machine Stat
     count_most = omega (arith, q.count, fetches_most r m₀ (take i xs), length-take-le i xs (omega arith))
 
     -- and at most one key more is held
-    pub held_few : m₀.keys ≡ [] → filled ≤ i
+    held_few : m₀.keys ≡ [] → filled ≤ i
     held_few none = omega (arith, q.filled_is, touched_few r m₀ (take i xs), ap length none, length-take-le i xs (omega arith))
+
+    -- so where there are slots for the touches, or for one key more than there are frames, one is left
+    pub slot_left : m₀.keys ≡ [] → min (length xs) (k + 1) ≤ places → filled < places
+    slot_left none slots = omega (arith, held_few none, held_most, q.filled_is, low, slots)
 
     -- a hit: the frame that is found is filled, so its use is not refused
     pub hit_accepted : (f : ℕ) → index.at x ≡ Some f → use_answer r s f ≡ Ok tt

@@ -1,8 +1,8 @@
 -- How the index and the held-key list show which keys the frames hold. Assumes nothing.
-use Rattle.std.specs.Prelude.{◌≡◌, ℕ, ◌<◌, ◌≤◌, false, cond, List, length, map, take, nat_lt, slice_index}
+use Rattle.std.specs.Prelude.{◌≡◌, ℕ, ◌+◌, ◌<◌, ◌≤◌, min, false, cond, List, length, map, take, nat_lt, slice_index}
 use Rattle.base.specs.Lists.{member, found_in, Apart}
 use Rattle.index.specs.Maps.{Map, empty, after_remove}
-use Rattle.index.specs.Slots.{map_of, SoundIndex}
+use Rattle.index.specs.Slots.{map_of, slots_of, SoundIndex}
 use Rattle.planning.specs.declared.held.HeldKeys.{HeldKeys}
 
 -- the keys of the filled frames, by their places in the list of touches
@@ -35,6 +35,10 @@ pub record Unfilled {K : Type 0} (code spread : K → ℕ) (frames : HeldKeys K)
   pub sound : SoundIndex code spread frames.index
   pub map : map_of code frames.index ≡ empty (map_of code frames.index).places
   pub none : frames.filled ≡ 0
+
+-- the index has a slot for each key of so many touches, or at least for one key more than there are frames
+abbrev pub SlotsFor : {K : Type 0} → ℕ → HeldKeys K → Type 0
+SlotsFor touches frames = min touches (length frames.held.now + 1) ≤ length (slots_of frames.index)
 
 module _ {K : Type 0} (code : K → ℕ) (keys : List K) (frames : HeldKeys K) where
   -- the keys of the filled frames

@@ -2,13 +2,15 @@
 // the list of touches. In MIN's schedule that is the key's latest touch, in the replay the one that fetched it.
 ghost use Rattle.std.specs.Prelude.{◌≡◌, ℕ, ◌+◌, ◌<◌, ◌≤◌, max, map, length, slice_index, slice_set};
 ghost use Rattle.policy.specs.Machine.{put};
-ghost use Rattle.index.specs.Maps.{empty};
 ghost use Rattle.index.specs.Slots.{map_of, SoundIndex};
 ghost use Rattle.planning.specs.Chosen.{HeldBelow};
-ghost use Rattle.planning.specs.Frames.{held_codes, Holds, HasRoom, emptied};
+ghost use Rattle.planning.specs.Frames.{held_codes, Holds, HasRoom, Unfilled, SlotsFor, emptied};
 
 use base::Key;
 use index::{Index, Slot};
+
+// How many slots the index has for a frame, so that few keys collide.
+const SLOTS_PER_FRAME: usize = 8;
 
 #[derive(Drop)]
 pub struct HeldKeys<'a, K> {
@@ -18,15 +20,17 @@ pub struct HeldKeys<'a, K> {
 }
 
 impl<'a, K: Key> HeldKeys<'a, K> {
-    // As many frames as the held-key list has places. None is filled, whatever the lists had.
+    // As many frames as the held-key list has places. None is filled, whatever the lists had. The frames never hold more keys than
+    // there are frames, so the index takes only some of the slots where there are many, and only these are cleared.
     pub fn new(slots: &'a mut [Slot<K>], held: &'a mut [u32]) -> HeldKeys<'a, K>
-        ensures sound { SoundIndex K.Key.code K.Key.spread result.index }
-        ensures map { map_of K.Key.code result.index ≡ empty (length slots.old) }
+        requires { (1 ≤ length held.old) × (length held.old ≤ 64) }
+        ensures unfilled { Unfilled K.Key.code K.Key.spread result }
+        ensures slots { SlotsFor (length slots.old) result }
         ensures held { result.held.now ≡ held.old }
-        ensures filled { result.filled ≡ 0 }
     {
+        let places = slots.len().min(SLOTS_PER_FRAME * held.len());
         HeldKeys {
-            index: Index::new(slots),
+            index: Index::new(&mut slots[..places]),
             held,
             filled: 0,
         }

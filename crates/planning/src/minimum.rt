@@ -1,8 +1,7 @@
 // MIN's schedule: the frame that serves each touch, and how many touches are fetches.
 ghost use Rattle.std.specs.Prelude.{◌≡◌, ◌≤◌, [], ◌++◌, map, length, drop};
-ghost use Rattle.index.specs.Slots.{map_of};
 ghost use Rattle.planning.specs.Chosen.{NextTouches};
-ghost use Rattle.planning.specs.Frames.{Unfilled};
+ghost use Rattle.planning.specs.Frames.{Unfilled, SlotsFor};
 ghost use Rattle.planning.specs.Minimum.{min_serves, min_fetches};
 
 use crate::held::HeldKeys;
@@ -17,8 +16,8 @@ pub fn serve_touches<K: Key>(
 ) -> u64
     requires size { (1 ≤ length frames.old.held.now) × (length frames.old.held.now ≤ 64) }
     requires empty { Unfilled K.Key.code K.Key.spread frames.old }
-    requires few { (length keys.now ≤ 4096) × ((length keys.now ≤ (map_of K.Key.code frames.old.index).places)
-        × ((length keys.now ≤ length next.now) × (length keys.now ≤ length serving.old))) }
+    requires slots { SlotsFor (length keys.now) frames.old }
+    requires few { (length keys.now ≤ 4096) × ((length keys.now ≤ length next.now) × (length keys.now ≤ length serving.old)) }
     requires next { NextTouches K.Key.code keys.now next.now }
     ensures answer { result ≡ min_fetches (length frames.old.held.now) [] (map K.Key.code keys.now) }
     ensures serving { serving.new ≡ min_serves (length frames.old.held.now) [] (map K.Key.code keys.now)

@@ -3,8 +3,7 @@ ghost use Rattle.std.specs.Prelude.{◌≡◌, ℕ, ◌≤◌, true, false, map,
 ghost use Rattle.base.specs.Geometries.{frames_of};
 ghost use Rattle.policy.specs.Machine.{fetches};
 ghost use Rattle.policy.specs.Shape.{Running};
-ghost use Rattle.index.specs.Slots.{map_of};
-ghost use Rattle.planning.specs.Frames.{Unfilled};
+ghost use Rattle.planning.specs.Frames.{Unfilled, SlotsFor};
 ghost use Rattle.planning.specs.Replay.{replayed, lists_answer, idle};
 
 use crate::held::HeldKeys;
@@ -31,7 +30,8 @@ fn count_fetches<P: Policy, K: Key>(policy: &mut P, keys: &[K], frames: &mut Hel
     requires places { (P.Policy.rules.frames (P.Policy.model policy.old) ≤ 64)
         × (P.Policy.rules.frames (P.Policy.model policy.old) ≡ length frames.old.held.now) }
     requires empty { Unfilled K.Key.code K.Key.spread frames.old }
-    requires few { (length keys.now ≤ 4096) × (length keys.now ≤ (map_of K.Key.code frames.old.index).places) }
+    requires slots { SlotsFor (length keys.now) frames.old }
+    requires few { length keys.now ≤ 4096 }
     ensures { result ≡ fetches P.Policy.rules (idle (P.Policy.model policy.old)) (map K.Key.code keys.now) }
 {
     let mut fetches = 0;

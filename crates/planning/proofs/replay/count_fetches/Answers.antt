@@ -1,4 +1,4 @@
-use Rattle.std.proofs.Common.{◌≡◌, ℕ, ◌<◌, List, map, length, sym, refl, ap, ◌∙◌, arith}
+use Rattle.std.proofs.Common.{◌≡◌, ℕ, ◌+◌, ◌<◌, ◌≤◌, min, List, map, length, sym, refl, ap, ◌∙◌, arith}
 use Rattle.std.proofs.lemmas.List.{length-map, length-set}
 use Rattle.index.specs.Slots.{map_of, number_of, slots_of, SoundIndex}
 use Rattle.policy.specs.Machine.{Rules, Machine}
@@ -6,7 +6,7 @@ use Rattle.planning.specs.Replay.{idle}
 use Rattle.planning.specs.declared.held.HeldKeys.{HeldKeys}
 use Rattle.planning.proofs.Holds.{room_shown, shows_shown}
 use Rattle.planning.proofs.Judged.{code_at}
-use Rattle.planning.proofs.Replays.{Replaying, replaying_none, replaying_all, replaying_hit, replaying_fetch, hit_accepted, fetch_room, fetch_below, count_most, held_few, held_most}
+use Rattle.planning.proofs.Replays.{Replaying, replaying_none, replaying_all, replaying_hit, replaying_fetch, hit_accepted, fetch_room, fetch_below, count_most, slot_left, held_most}
 use Rattle.planning.proofs.replay.count_fetches.Goals as goal
 use Rattle.planning.proofs.replay.count_fetches.Goals.{in-Some, in-None}
 
@@ -43,8 +43,9 @@ hold-requires g c =
     let below = fetch_below g.P.Policy.rules _ g.met.P.Policy.shape _ c.requires.runs xs _ _ _ _ _ _ _ q low _ c.place-frame.ensures.value in
     let key = code_at g.K.Key.code c.args.keys.now c.loop-place.place c.index-keys-place.result c.loop-place-test.true c.index-keys-place.is in
     let found = ap (number_of g.K.Key.code (slots_of c.loop-place.frames.index)) (sym key) ∙ sym c.in-None.ensures in
-    let few = held_few g.P.Policy.rules _ g.met.P.Policy.shape _ c.requires.runs xs _ _ _ _ _ _ _ q low refl in
-    let free : c.loop-place.frames.filled < length (slots_of c.args.frames.now.index) = omega (arith, few, c.loop-place-test.true, c.requires.few) in
+    let slots : min (length xs) (g.P.Policy.rules.frames (g.P.Policy.model c.args.policy.now) + 1) ≤ length (slots_of c.args.frames.now.index) =
+    rw (length-map, c.requires.places.1) c.requires.slots in
+    let free = slot_left g.P.Policy.rules _ g.met.P.Policy.shape _ c.requires.runs xs _ _ _ _ _ _ _ q low refl slots in
     let room = fetch_room g.P.Policy.rules _ g.met.P.Policy.shape _ c.requires.runs xs _ _ _ _ _ _ _ q low _ found c.place-frame.ensures.value free in
     record {
       sound = c.loop-place.invariant.0;
@@ -66,8 +67,9 @@ loop-place-preserved g c =
     let low : c.loop-place.place < length xs = rw length-map c.loop-place-test.true in
     let q = c.loop-place.invariant.1.0 in
     let key = code_at code c.args.keys.now c.loop-place.place c.index-keys-place.result c.loop-place-test.true c.index-keys-place.is in
-    let free : c.loop-place.frames.filled < length (slots_of c.args.frames.now.index) =
-    omega (arith, held_few g.P.Policy.rules _ g.met.P.Policy.shape _ c.requires.runs xs _ _ _ _ _ _ _ q low refl, c.loop-place-test.true, c.requires.few) in
+    let slots : min (length xs) (g.P.Policy.rules.frames (g.P.Policy.model c.args.policy.now) + 1) ≤ length (slots_of c.args.frames.now.index) =
+    rw (length-map, c.requires.places.1) c.requires.slots in
+    let free = slot_left g.P.Policy.rules _ g.met.P.Policy.shape _ c.requires.runs xs _ _ _ _ _ _ _ q low refl slots in
     elim c.match-frame_of.branch [
       | in-Some w ↦
           let found = ap (number_of code (slots_of c.loop-place.frames.index)) (sym key) ∙ sym w.in-Some.ensures in

@@ -5,10 +5,7 @@ use Rattle.std.proofs.lemmas.Bool.{true≢false}
 use Rattle.base.specs.Geometries.{frames_of}
 use Rattle.policy.specs.Machine.{fetches}
 use Rattle.policy.specs.Machines.{running_start}
-use Rattle.index.specs.Maps.{Map}
-use Rattle.index.specs.Slots.{map_of}
 use Rattle.planning.specs.Replay.{idle, lists_answer}
-use Rattle.planning.proofs.Holds.{unfilled}
 use Rattle.planning.proofs.Judged.{lists_enough, replayed_refused, replayed_accepted}
 use Rattle.planning.proofs.replay.replay.Goals as goal
 
@@ -35,14 +32,14 @@ count_fetches-requires g c =
     let k = frames_of c.args.geometry.now in
     let b = c.frames-frames.ensures.bounded in
     let e = lists_enough _ _ _ _ c.in_ok-check_lists.ensures in
-    let places : (map_of g.K.Key.code c.new-keys_held.result.index).places ≡ length c.args.slots.now = ap (λ (n : Map). n.places) c.new-keys_held.ensures.map in
     let frames : r.frames (g.P.Policy.model c.new-policy.result) ≡ k = ap r.frames c.new-policy.ensures ∙ g.met.P.Policy.shape.first_frames c.args.setting k b.some in
     let size : length c.new-keys_held.result.held.now ≡ c.frames-frames.result = ap length c.new-keys_held.ensures.held ∙ length-take-le _ _ e.held_for in
     record {
       runs = rw (frames, c.new-policy.ensures) (running_start g.met.P.Policy.shape b.some c.args.setting);
       places = (omega (arith, frames, b.most), omega (arith, frames, c.frames-frames.ensures.value, size));
-      empty = unfilled g.K.Key.code g.K.Key.spread _ _ c.new-keys_held.ensures.sound c.new-keys_held.ensures.map c.new-keys_held.ensures.filled;
-      few = (e.few, omega (arith, places, e.slots_for));
+      empty = c.new-keys_held.ensures.unfilled;
+      slots = omega (arith, c.new-keys_held.ensures.slots, e.slots_for);
+      few = e.few;
     }
 
 pub returns : goal.returns

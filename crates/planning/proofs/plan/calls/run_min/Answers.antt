@@ -1,19 +1,17 @@
-use Rattle.std.proofs.Common.{◌≡◌, [], ◌++◌, map, length, drop, ap, ◌∙◌, arith}
+use Rattle.std.proofs.Common.{[], ◌++◌, map, length, drop, ap, ◌∙◌, arith}
 use Rattle.std.proofs.lemmas.List.{length-take-le}
-use Rattle.index.specs.Maps.{Map}
-use Rattle.index.specs.Slots.{map_of}
-use Rattle.planning.proofs.Holds.{unfilled}
 use Rattle.planning.specs.Minimum.{min_serves, min_fetches}
 use Rattle.planning.proofs.plan.calls.run_min.Goals as goal
 
 pub serve_touches-requires : goal.serve_touches-requires
 serve_touches-requires g c =
     let made = c.new-keys_held.ensures in
-    let places : (map_of g.K.Key.code c.new-keys_held.result.index).places ≡ length c.args.slots.now = ap (λ (n : Map). n.places) made.map in
+    let wide = ap length made.held ∙ length-take-le c.args.frames c.args.held.now c.requires.frames.1.1 in
     record {
-      size = let wide = ap length made.held ∙ length-take-le c.args.frames c.args.held.now c.requires.frames.1.1 in (omega (arith, wide, c.requires.frames), omega (arith, wide, c.requires.frames));
-      empty = unfilled g.K.Key.code g.K.Key.spread _ _ made.sound made.map made.filled;
-      few = (c.requires.few.0, (omega (arith, places, c.requires.few.1.0), c.requires.few.1.1));
+      size = (omega (arith, wide, c.requires.frames), omega (arith, wide, c.requires.frames));
+      empty = made.unfilled;
+      slots = omega (arith, made.slots, c.requires.few);
+      few = (c.requires.few.0, c.requires.few.1.1);
       next = c.requires.next;
     }
 
