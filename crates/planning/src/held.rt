@@ -10,7 +10,7 @@ use base::Key;
 use index::{Index, Slot};
 
 // How many slots the index has for a frame, so that few keys collide.
-const SLOTS_PER_FRAME: usize = 8;
+const SLOTS_PER_FRAME: usize = 16;
 
 #[derive(Drop)]
 pub struct HeldKeys<'a, K> {
