@@ -6,7 +6,9 @@ use Rattle.policy.specs.Law.{Conservative}
 use Rattle.planning.specs.Schedules.{Demand}
 use Rattle.planning.specs.Minimum.{min_fetches}
 use Rattle.planning.specs.Replay.{most_touches}
-use Rattle.planning.specs.Plan.{Places, enough, planning_of, planned}
+use Rattle.planning.specs.declared.lists.Places.{Places}
+use Rattle.planning.specs.Lists.{enough}
+use Rattle.planning.specs.Plan.{planning_of, planned}
 use Rattle.planning.proofs.Ceilings.{min_optimal, competitive, under_ceiling}
 use Rattle.cache.specs.View.{View}
 use Rattle.cache.specs.Events.{Event}

@@ -2,11 +2,13 @@
 use Rattle.std.specs.Prelude.{◌≡◌, ℕ, ◌+◌, ◌-◌, ◌*◌, ◌≤◌, min, true, List, [], ◌∷◌, ◌++◌, length, Ok}
 use Rattle.disk.specs.Meaning.{Meaning, largest_tally}
 use Rattle.policy.specs.Machine.{Rules, start, fetches}
+use Rattle.planning.specs.declared.lists.Places.{Places}
 use Rattle.planning.specs.declared.plan.Plan.{Plan}
 use Rattle.planning.specs.Schedules.{Demand}
 use Rattle.planning.specs.Bounds.{Optimal}
 use Rattle.planning.specs.Replay.{most_touches}
-use Rattle.planning.specs.Plan.{Places, enough, Planning, planned, ceiling}
+use Rattle.planning.specs.Lists.{enough}
+use Rattle.planning.specs.Plan.{Planning, planned, ceiling}
 use Rattle.cache.specs.Places.{pins, dirty, framed}
 use Rattle.cache.specs.View.{View, seen}
 use Rattle.cache.specs.Events.{Event, Each, Took, AsAlone, Serves, alone_after, all_asked, touches_of, cache_after}

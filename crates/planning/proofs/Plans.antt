@@ -1,15 +1,19 @@
 -- How planning judges, and what its numbers come to.
-use Rattle.std.proofs.Common.{◌≡◌, ℕ, suc, ◌+◌, ◌-◌, ◌*◌, ◌^◌, ◌<◌, ◌≤◌, max, cond, ◌&&◌, leb, List, [], ◌∷◌, ◌++◌, length, drop, Ok, Err, Result, sym, refl, ap, ◌∙◌, inl, inr, mul-le-mul_right, div-le_self, arith}
+use Rattle.std.proofs.Common.{◌≡◌, ℕ, suc, ◌+◌, ◌-◌, ◌*◌, ◌^◌, ◌<◌, ◌≤◌, max, cond, ◌&&◌, leb, List, [], ◌∷◌, ◌++◌, map, length, drop, Ok, Err, Result}
+use Rattle.std.proofs.Common.{sym, refl, ap, ◌∙◌, inl, inr, mul-le-mul_right, div-le_self, arith}
 use Rattle.std.specs.Result.{result_and}
 use Rattle.std.proofs.lemmas.Bool.{cases_Bool, and_parts, and_from, leb-true, le-leb, cond_both}
+use Rattle.std.proofs.lemmas.List.{length-map}
 use Rattle.base.specs.Geometries.{frames_of, pins_of, judged_numbers, read_off, built}
 use Rattle.base.specs.Lists.{member}
 use Rattle.base.specs.declared.geometry.Geometry.{Geometry}
 use Rattle.base.specs.declared.refusal.Refusal.{Refusal}
 use Rattle.policy.specs.Machine.{Rules}
 use Rattle.planning.specs.declared.plan.Plan.{Plan}
+use Rattle.planning.specs.declared.lists.Places.{Places}
+use Rattle.planning.specs.Lists.{room_in, enough}
 use Rattle.planning.specs.Minimum.{min_keys, min_serves, min_fetches}
-use Rattle.planning.specs.Plan.{Planning, Places, room_in, enough, ceiling, plan_answer, planning_of, forecast_of, planned, forecasted, answer_of, serving_after}
+use Rattle.planning.specs.Plan.{Planning, ceiling, plan_answer, planning_of, forecast_of, planned, forecasted, answer_of, serving_after}
 use Rattle.planning.specs.Replay.{most_touches, lists_answer}
 use Rattle.planning.proofs.Judged.{never, same_ok}
 
@@ -55,6 +59,11 @@ plan_passed n k h held p e = elim (cases_Bool (leb 1 k && leb k 64)) [
   ]
   | inr a ↦ absurd (never _ tt (sym (rw a at e)))
 ]
+
+-- what was judged, by the codes of the keys and the places that the caller lends
+pub judged_by : {K : Type 0} (code : K → ℕ) (keys : List K) (k h held need : ℕ) (judged lent : Places) → held ≡ need → judged ≡ lent →
+    plan_answer (length keys) k h held judged ≡ plan_answer (length (map code keys)) k h need lent
+judged_by code keys k h held need judged lent most same = rw (length-map keys code, most, same)
 
 -- what planning hands out, where it refuses and where it passes
 module _ (touches : List ℕ) (k h : ℕ) (p : Places) where

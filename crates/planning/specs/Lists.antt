@@ -1,10 +1,18 @@
 -- The lists that planning works in: how many places they have, and whether they are as they were. Assumes nothing.
-use Rattle.std.specs.Prelude.{◌≡◌, length}
-use Rattle.planning.specs.Plan.{Places}
+use Rattle.std.specs.Prelude.{◌≡◌, ℕ, min, Bool, ◌&&◌, length, nat_le}
 use Rattle.planning.specs.declared.lists.Lists.{Lists}
+use Rattle.planning.specs.declared.lists.Places.{Places}
 
 abbrev pub places : {K : Type 0} → Lists K → Places
 places l = record { slots = length l.slots.now; next = length l.next.now; held = length l.held.now; serving = length l.serving.now }
+
+-- how many touches there are places for
+abbrev pub room_in : Places → ℕ
+room_in p = min (min p.slots p.next) p.serving
+
+-- whether they suffice for so many touches and h frames
+abbrev pub enough : ℕ → ℕ → Places → Bool
+enough touches h p = nat_le touches (room_in p) && nat_le h p.held
 
 -- all lists but the serving frames are as they were
 pub record Unchanged {K : Type 0} (before after : Lists K) : Type 0 where

@@ -1,32 +1,19 @@
 -- What planning answers. Assumes nothing.
-use Rattle.std.specs.Prelude.{ℕ, ◌+◌, ◌-◌, ◌*◌, ◌/◌, min, max, Bool, cond, ◌&&◌, List, [], ◌++◌, length, drop, Ok, Err, Result, nat_le}
+use Rattle.std.specs.Prelude.{ℕ, ◌+◌, ◌-◌, ◌*◌, ◌/◌, max, cond, ◌&&◌, List, [], ◌++◌, length, drop, Ok, Err, Result, nat_le}
 use Rattle.std.specs.Result.{result_and}
 use Rattle.base.specs.declared.refusal.Refusal.{Refusal}
 use Rattle.base.specs.declared.refusal.Refusal.TheVariants.{FrameCount, ListTooLong, TooFewPlaces, SmallerFrameCount}
 use Rattle.policy.specs.Machine.{Rules, start, fetches}
 use Rattle.planning.specs.declared.plan.Plan.{Plan}
 use Rattle.planning.specs.declared.forecast.Forecast.{Forecast}
+use Rattle.planning.specs.declared.lists.Places.{Places}
+use Rattle.planning.specs.Lists.{enough}
 use Rattle.planning.specs.Minimum.{min_serves, min_fetches}
 use Rattle.planning.specs.Replay.{most_touches}
 
 -- the ceiling on the fetches of k frames, from d fetches on h frames
 abbrev pub ceiling : ℕ → ℕ → ℕ → ℕ
 ceiling k h d = (k * d) / (k - h + 1) + k
-
--- how many places the lists have that the caller lends
-pub record Places : Type 0 where
-  pub slots : ℕ
-  pub next : ℕ
-  pub held : ℕ
-  pub serving : ℕ
-
--- how many touches they have places for
-abbrev pub room_in : Places → ℕ
-room_in p = min (min p.slots p.next) p.serving
-
--- whether they suffice for so many touches and h frames
-abbrev pub enough : ℕ → ℕ → Places → Bool
-enough touches h p = nat_le touches (room_in p) && nat_le h p.held
 
 -- the plan for k frames by a schedule on h
 abbrev pub plan_of : List ℕ → ℕ → ℕ → Plan

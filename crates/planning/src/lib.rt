@@ -11,6 +11,6 @@ mod plan;
 mod replay;
 
 pub use forecast::{Forecast, forecast_touches};
-pub use lists::Lists;
+pub use lists::{Lists, Places};
 pub use plan::{Plan, plan_touches};
 pub use replay::replay as replay_keys;

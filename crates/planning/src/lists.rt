@@ -1,7 +1,6 @@
 // The lists that planning works in, lent by the caller.
 ghost use Rattle.std.specs.Prelude.{◌≡◌};
-ghost use Rattle.planning.specs.Lists.{places};
-ghost use Rattle.planning.specs.Plan.{room_in};
+ghost use Rattle.planning.specs.Lists.{places, room_in, enough};
 
 use index::Slot;
 
@@ -17,14 +16,40 @@ pub struct Lists<'a, K> {
     pub serving: &'a mut [u8],
 }
 
+// How many places each of them has.
+#[derive(Clone, Copy, PartialEq, Eq, Debug)]
+pub struct Places {
+    pub slots: usize,
+    pub next: usize,
+    pub held: usize,
+    pub serving: usize,
+}
+
 impl<K> Lists<'_, K> {
+    pub fn places(&self) -> Places
+        ensures { result ≡ places self.now }
+    {
+        Places {
+            slots: self.slots.len(),
+            next: self.next.len(),
+            held: self.held.len(),
+            serving: self.serving.len(),
+        }
+    }
+}
+
+impl Places {
     // How many touches the slots, the next-touch list and the serving list all have places for.
     pub fn room(&self) -> usize
-        ensures { result ≡ room_in (places self.now) }
+        ensures { result ≡ room_in self.now }
     {
-        self.slots
-            .len()
-            .min(self.next.len())
-            .min(self.serving.len())
+        self.slots.min(self.next).min(self.serving)
+    }
+
+    // Whether there are places for so many touches and frames.
+    pub fn suffice(&self, touches: usize, frames: usize) -> bool
+        ensures { result ≡ enough touches frames self.now }
+    {
+        touches <= self.room() && frames <= self.held
     }
 }

@@ -1,5 +1,6 @@
 -- The rows of a sheet, and the texts that it is made of.
-use Rattle.std.proofs.Common.{◌≡◌, ℕ, zero, suc, ◌+◌, ◌<◌, ◌≤◌, leb, List, [], ◌++◌, length, get_or, drop, true, is_ok, Ok, Err, Result, sym, refl, ap, ◌∙◌, inl, inr, arith}
+use Rattle.std.proofs.Common.{◌≡◌, ℕ, zero, suc, ◌+◌, ◌<◌, ◌≤◌, leb, List, [], ◌++◌, length, get_or, drop, true, is_ok, Ok, Err, Result}
+use Rattle.std.proofs.Common.{sym, refl, ap, ◌∙◌, inl, inr, arith}
 use Rattle.std.proofs.lemmas.List.{drop_at}
 use Rattle.std.proofs.lemmas.Bool.{cases_Bool, leb-true, le-leb}
 use Rattle.trace.specs.declared.fault.LineFault.{LineFault}
@@ -11,7 +12,7 @@ use Rattle.base.specs.Geometries.{built}
 use Rattle.base.specs.declared.geometry.Geometry.{Geometry}
 use Rattle.base.specs.declared.refusal.Refusal.{Refusal}
 use Rattle.planning.specs.Lists.{SameLists}
-use Rattle.planning.specs.Plan.{Places}
+use Rattle.planning.specs.declared.lists.Places.{Places}
 use Rattle.planning.specs.declared.lists.Lists.{Lists}
 use Rattle.planning.proofs.Judged.{never, same_ok}
 use Rattle.planning.specs.Minimum.{min_serves}
@@ -43,7 +44,13 @@ roomy_long n l l' q s = let e = s.long in record {
 }
 
 pub same_lists : {K : Type 0} (a b c : Lists K) → SameLists a b → SameLists b c → SameLists a c
-same_lists a b c p q = record { long = q.long ∙ p.long; slots = q.slots ∙ p.slots; next = q.next ∙ p.next; held = q.held ∙ p.held; serving = q.serving ∙ p.serving }
+same_lists a b c p q = record {
+  long = q.long ∙ p.long;
+  slots = q.slots ∙ p.slots;
+  next = q.next ∙ p.next;
+  held = q.held ∙ p.held;
+  serving = q.serving ∙ p.serving;
+}
 
 -- the serving list after so many rows
 abbrev pub served_rows : List ℕ → ℕ → List ℕ → List ℕ
@@ -53,16 +60,21 @@ served_rows touches (suc i) old = served (get_or frame_counts i 0) touches old
 -- a row leaves what stands behind the last touch
 behind_rows : (touches : List ℕ) (i : ℕ) (old : List ℕ) → drop (length touches) (served_rows touches i old) ≡ drop (length touches) old
 behind_rows touches zero old = refl
-behind_rows touches (suc i) old = let h = get_or frame_counts i 0 in drop_at (min_serves h [] touches) (drop (length touches) old) (length touches) (serves_length h [] touches)
+behind_rows touches (suc i) old =
+    let h = get_or frame_counts i 0 in
+    drop_at (min_serves h [] touches) (drop (length touches) old) (length touches) (serves_length h [] touches)
 
-pub served_more : (touches : List ℕ) (i h : ℕ) (old before after : List ℕ) → h ≡ get_or frame_counts i 0 → before ≡ served_rows touches i old → after ≡ served h touches before →
+pub served_more : (touches : List ℕ) (i h : ℕ) (old before after : List ℕ) → h ≡ get_or frame_counts i 0 →
+    before ≡ served_rows touches i old → after ≡ served h touches before →
     after ≡ served_rows touches (i + 1) old
 served_more touches i h old before after e b a =
     let next : i + 1 ≡ suc i = omega arith in
-    rw next (a ∙ ap (λ n. served n touches before) e ∙ ap (λ w. min_serves (get_or frame_counts i 0) [] touches ++ w) (ap (drop (length touches)) b ∙ behind_rows touches i old))
+    let behind = ap (drop (length touches)) b ∙ behind_rows touches i old in
+    rw next (a ∙ ap (λ n. served n touches before) e ∙ ap (λ w. min_serves (get_or frame_counts i 0) [] touches ++ w) behind)
 
 -- touches that fit so many places fit more
-placed_more : (p q : ℕ) (j : Result (List ℕ) LineFault) (ts : List ℕ) → p ≤ q → and_then (in_replay j) (placed p) ≡ Ok ts → (and_then (in_replay j) (placed q) ≡ Ok ts) × (length ts ≤ p)
+placed_more : (p q : ℕ) (j : Result (List ℕ) LineFault) (ts : List ℕ) → p ≤ q → and_then (in_replay j) (placed p) ≡ Ok ts →
+    (and_then (in_replay j) (placed q) ≡ Ok ts) × (length ts ≤ p)
 placed_more p q (Err f) ts l e = absurd (never _ _ e)
 placed_more p q (Ok us) ts l e = elim (cases_Bool (leb (length us) p)) [
   | inl a ↦

@@ -6,9 +6,10 @@ use Rattle.policy.specs.Machine.{start, fetches}
 use Rattle.policy.specs.Lru.{lru_rules}
 use Rattle.policy.specs.Fifo.{fifo_rules}
 use Rattle.policy.specs.Clock.{clock_rules}
+use Rattle.planning.specs.declared.lists.Places.{Places}
 use Rattle.planning.specs.Bounds.{ForecastHolds}
 use Rattle.planning.specs.Minimum.{min_serves}
-use Rattle.planning.specs.Plan.{Places, Planning, plan_of, plan_answer}
+use Rattle.planning.specs.Plan.{Planning, plan_of, plan_answer}
 use Rattle.trace.specs.declared.fault.ReplayFault.{ReplayFault}
 use Rattle.trace.specs.declared.fault.ReplayFault.TheVariants as replay_fault
 use Rattle.trace.specs.Accesses.{and_then}
@@ -32,7 +33,8 @@ line_at touches k h = record {
 -- frame of either number.
 abbrev pub lined : List ℕ → ℕ → ℕ → Places → Result (Planning PlanLine) Refusal
 lined touches k h p =
-    result_and (plan_answer (length touches) k h (max k h) p) (Ok (record { answer = line_at touches k h; serving = min_serves h [] touches }))
+    result_and (plan_answer (length touches) k h (max k h) p)
+    (Ok (record { answer = line_at touches k h; serving = min_serves h [] touches }))
 
 -- a refusal that no line of a trace is to blame for
 abbrev pub as_fault : {T : Type 0} → Result T Refusal → Result T ReplayFault

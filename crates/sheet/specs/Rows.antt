@@ -6,9 +6,9 @@ use Rattle.policy.specs.Lru.{lru_rules}
 use Rattle.policy.specs.Fifo.{fifo_rules}
 use Rattle.policy.specs.Clock.{clock_rules}
 use Rattle.planning.specs.Minimum.{min_serves, min_fetches}
-use Rattle.planning.specs.Lists.{places}
-use Rattle.planning.specs.Plan.{Places, room_in}
+use Rattle.planning.specs.Lists.{places, room_in}
 use Rattle.planning.specs.declared.lists.Lists.{Lists}
+use Rattle.planning.specs.declared.lists.Places.{Places}
 use Rattle.trace.specs.declared.fault.ReplayFault.{ReplayFault}
 use Rattle.trace.specs.declared.fault.ReplayFault.TheVariants as replay_fault
 use Rattle.trace.specs.Accesses.{and_then}

@@ -1,4 +1,5 @@
-// What a planner reads of a trace: the sheet, with what each policy and the optimum fetch for a few numbers of frames, and the line of a plan.
+// What a planner reads of a trace: the sheet, with what each policy and the optimum fetch for a few numbers of frames, and the line
+// of a plan.
 #![tactic(auto)]
 
 mod plan_line;

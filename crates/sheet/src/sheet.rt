@@ -46,7 +46,7 @@ pub fn sheet_of_trace(
     ensures same { SameLists lists.old lists.new }
     ensures refused { is_ok result ≡ false → Unchanged lists.old lists.new }
 {
-    judge_trace(text, keys.len().min(lists.room()))?;
+    judge_trace(text, keys.len().min(lists.places().room()))?;
     if lists.held.len() < MAX_FRAMES {
         return Err(ReplayFault::Refused(Refusal::TooFewPlaces));
     }

@@ -34,7 +34,13 @@ where
     ensures refused { is_ok result ≡ false → Unchanged lists.old lists.new }
     ensures same { SameLists lists.old lists.new }
 {
-    check_plan(keys.len(), frames, smaller, frames.max(smaller), lists)?;
+    check_plan(
+        keys.len(),
+        frames,
+        smaller,
+        frames.max(smaller),
+        lists.places(),
+    )?;
     let plan = plan_touches(keys, frames, smaller, lists)?;
     let geometry = Geometry::new(frames, 0)?;
     let fetches = replay::<P, K>(setting, &geometry, keys, lists.slots, lists.held)?;

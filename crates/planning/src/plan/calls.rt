@@ -9,7 +9,7 @@ ghost use Rattle.planning.specs.Plan.{ceiling as ceiling_at, plan_answer, planne
 
 use super::Plan;
 use crate::held::HeldKeys;
-use crate::lists::Lists;
+use crate::lists::{Lists, Places};
 use crate::minimum::serve_touches;
 use crate::next::next_touches;
 use base::{Key, MAX_FRAMES, MAX_TOUCHES, Refusal};
@@ -26,14 +26,14 @@ fn ceiling(frames: u64, smaller: u64, fetches: u64) -> u64
 
 // Refuses, in this order: the frames, the list's length, lists with too few places, the smaller number of frames.
 // `held` is how many held-key places are needed.
-pub fn check_plan<K>(
+pub fn check_plan(
     touches: usize,
     frames: usize,
     smaller: usize,
     held: usize,
-    lists: &Lists<'_, K>,
+    lent: Places,
 ) -> Result<(), Refusal>
-    ensures { result ≡ plan_answer touches frames smaller held (places lists.now) }
+    ensures { result ≡ plan_answer touches frames smaller held lent }
 {
     if frames == 0 || frames > MAX_FRAMES {
         return Err(Refusal::FrameCount);
@@ -41,7 +41,7 @@ pub fn check_plan<K>(
     if touches > MAX_TOUCHES {
         return Err(Refusal::ListTooLong);
     }
-    if lists.room() < touches || lists.held.len() < held {
+    if !lent.suffice(touches, held) {
         return Err(Refusal::TooFewPlaces);
     }
     if smaller == 0 || smaller > frames {
@@ -86,7 +86,7 @@ pub fn plan_touches<K: Key>(
     ensures refused { is_ok result ≡ false → Unchanged lists.old lists.new }
     ensures same { SameLists lists.old lists.new }
 {
-    check_plan(keys.len(), frames, smaller, smaller, lists)?;
+    check_plan(keys.len(), frames, smaller, smaller, lists.places())?;
     next_touches(keys, lists.slots, lists.next);
     let next = &mut *lists.next;
     let fetches = run_min(keys, smaller, lists.slots, next, lists.held, lists.serving);

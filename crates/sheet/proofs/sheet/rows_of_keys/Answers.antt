@@ -15,19 +15,22 @@ six : (rows : List Row) → map frames_in rows ≡ frame_counts → length rows 
 six rows e = sym (length-map rows frames_in) ∙ ap length e
 
 -- a row's number of frames, by its place
-frames_at : (rows : List Row) (i : ℕ) (d : Row) → map frames_in rows ≡ frame_counts → i < 6 → (get_or rows i d).frames ≡ get_or frame_counts i 0
+frames_at : (rows : List Row) (i : ℕ) (d : Row) → map frames_in rows ≡ frame_counts → i < 6 →
+    (get_or rows i d).frames ≡ get_or frame_counts i 0
 frames_at rows i d e l = sym (get_or-map frames_in rows i d 0 (omega (arith, six rows e, l))) ∙ ap (λ (ks : List ℕ). get_or ks i 0) e
 
 -- so it makes a geometry
-within_at : (rows : List Row) (i : ℕ) (d : Row) → map frames_in rows ≡ frame_counts → i < 6 → (1 ≤ (get_or rows i d).frames) × ((get_or rows i d).frames ≤ 64)
+within_at : (rows : List Row) (i : ℕ) (d : Row) → map frames_in rows ≡ frame_counts → i < 6 →
+    (1 ≤ (get_or rows i d).frames) × ((get_or rows i d).frames ≤ 64)
 within_at rows i d e l =
     let f = frames_at rows i d e l in
     let w = counts_within i l in
     (omega (arith, f, w.0), omega (arith, f, w.1))
 
 -- one row more
-rows_more : (touches : List ℕ) (rows : List Row) (i : ℕ) (row : Row) → i < 6 → length rows ≡ 6 → row ≡ row_of touches (get_or frame_counts i 0) →
-    take i rows ≡ take i (map (row_of touches) frame_counts) → take (i + 1) (set rows i row) ≡ take (i + 1) (map (row_of touches) frame_counts)
+rows_more : (touches : List ℕ) (rows : List Row) (i : ℕ) (row : Row) → i < 6 → length rows ≡ 6 →
+    row ≡ row_of touches (get_or frame_counts i 0) → take i rows ≡ take i (map (row_of touches) frame_counts) →
+    take (i + 1) (set rows i row) ≡ take (i + 1) (map (row_of touches) frame_counts)
 rows_more touches rows i row l long e q =
     let ms = map (row_of touches) frame_counts in
     take_more_set rows i row (omega arith) ∙ ap (λ w. w ++ (row ∷ [])) q ∙
@@ -69,7 +72,8 @@ returns-clause-rows c =
     let ms : List Row = map (row_of (map volume_code c.args.keys.now)) frame_counts in
     let i = c.loop-row.row-index in
     let rows = c.loop-row.row-items in
-    sym (take_all i rows (omega (arith, six rows c.loop-row.invariant.1.0, c.loop-row-test.false))) ∙ c.loop-row.invariant.1.1.0 ∙ take_all i ms c.loop-row-test.false
+    sym (take_all i rows (omega (arith, six rows c.loop-row.invariant.1.0, c.loop-row-test.false))) ∙ c.loop-row.invariant.1.1.0 ∙
+    take_all i ms c.loop-row-test.false
 
 pub returns-clause-serving : goal.returns-clause-serving
 returns-clause-serving c =

@@ -11,4 +11,5 @@ abbrev pub invariant-loop-row : goal.invariant-loop-row
 invariant-loop-row l =
     Roomy (length l.keys) l.lists × ((map (λ (r : Row). r.frames) l.row-items ≡ frame_counts) ×
     ((take l.row-index l.row-items ≡ take l.row-index (map (row_of (map volume_code l.keys)) frame_counts)) ×
-    ((l.lists.serving.now ≡ served_rows (map volume_code l.keys) l.row-index l.initial.lists.serving.now) × SameLists l.initial.lists l.lists)))
+    ((l.lists.serving.now ≡ served_rows (map volume_code l.keys) l.row-index l.initial.lists.serving.now) ×
+    SameLists l.initial.lists l.lists)))

@@ -4,6 +4,7 @@ use Rattle.base.specs.Keys.{volume_code}
 use Rattle.trace.specs.declared.fault.ReplayFault.{ReplayFault}
 use Rattle.trace.specs.Touches.{judged, counted, Written}
 use Rattle.sheet.specs.Rows.{Lent, lent, room, row_of, frame_counts, touches_for, sheet_of, served, serving_of}
+use Rattle.planning.specs.Lists.{room_in}
 use Rattle.planning.proofs.Judged.{same_ok}
 use Rattle.sheet.proofs.Sheets.{judged_more, counted_some}
 use Rattle.sheet.proofs.sheet.sheet_of_trace.Goals as goal
@@ -19,7 +20,7 @@ pub returns : goal.returns
 returns c =
     let text = c.args.text.now in
     let l = lent c.args.keys.now c.args.lists.now in
-    let er = c.min.ensures ∙ ap (min l.keys) c.room.ensures in
+    let er = c.min.ensures ∙ ap (min l.keys) (c.room.ensures ∙ ap room_in c.places.ensures) in
     let old = c.args.lists.now.serving.now in
     let q = counted_some (judged text (room l)) _ (c.in_ok-judge_trace.ensures.answer ∙ ap (λ n. counted (judged text n)) er) in
     let ts = q.0 in
@@ -28,8 +29,9 @@ returns c =
     let written = c.in_ok-touches.ensures.keys in
     let count = same_ok _ _ (c.in_ok-touches.ensures.answer ∙ ap counted more.0) in
     let filled = subst (λ (r : Result (List ℕ) ReplayFault). Written r c.args.keys.now c.read_trace.new.keys) more.0 written in
+    let all : c.in_ok-touches.touches - 0 ≡ length ts = omega (arith, count) in
     let part : map volume_code (take (c.in_ok-touches.touches - 0) c.read_trace.new.keys) ≡ ts =
-    ap (λ n. map volume_code (take n c.read_trace.new.keys)) (let z : c.in_ok-touches.touches - 0 ≡ length ts = omega (arith, count) in z) ∙ filled.first in
+    ap (λ n. map volume_code (take n c.read_trace.new.keys)) all ∙ filled.first in
     let rows = c.rows_of_keys.ensures.rows ∙ ap (λ (w : List ℕ). map (row_of w) frame_counts) part in
     record {
       answer = ap Ok rows ∙ sym (sheet_fits text l ts tf);

@@ -12,10 +12,13 @@ returns-clause-bounded c =
     let text = c.args.text.now in
     let places = length c.args.keys.now in
     let q = counted_some (judged text places) _ c.in_ok-touches.ensures.answer in
-    let filled = subst (λ (r : Result (List ℕ) ReplayFault). Written r c.args.keys.now c.read_trace.new.keys) q.1 c.in_ok-touches.ensures.keys in
+    let filled =
+    subst (λ (r : Result (List ℕ) ReplayFault). Written r c.args.keys.now c.read_trace.new.keys) q.1 c.in_ok-touches.ensures.keys in
     let keys = take c.in_ok-touches.touches c.read_trace.new.keys in
     let first : map volume_code keys ≡ q.0 = ap (λ n. map volume_code (take n c.read_trace.new.keys)) q.2 ∙ filled.first in
     let read : map volume_code keys ≡ read_from text places = first ∙ sym (ap accepted q.1) in
-    let P : List ℕ → Type 0 = λ touches. WithinCeiling c.in_ok-plan_of_keys.field-0 touches (take (length touches) c.plan_of_keys.new.lists.serving.now) in
+    let line = c.in_ok-plan_of_keys.field-0 in
+    let serving = c.plan_of_keys.new.lists.serving.now in
+    let P : List ℕ → Type 0 = λ touches. WithinCeiling line touches (take (length touches) serving) in
     let long : length keys ≡ length (map volume_code keys) = sym (length-map keys volume_code) in
-    subst P read (subst (λ n. WithinCeiling c.in_ok-plan_of_keys.field-0 (map volume_code keys) (take n c.plan_of_keys.new.lists.serving.now)) long c.in_ok-plan_of_keys.ensures.bounded)
+    subst P read (subst (λ n. WithinCeiling line (map volume_code keys) (take n serving)) long c.in_ok-plan_of_keys.ensures.bounded)

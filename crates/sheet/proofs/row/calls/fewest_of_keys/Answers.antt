@@ -6,4 +6,5 @@ pub returns-clause-serving : goal.returns-clause-serving
 returns-clause-serving g c =
     let touches = map g.K.Key.code c.args.keys.now in
     let h = c.args.frames in
-    c.plan_touches.ensures.serving ∙ planned_serving touches h h _ _ c.args.lists.now.serving.now (sym c.unwrap.ensures ∙ c.plan_touches.ensures.answer)
+    c.plan_touches.ensures.serving ∙
+    planned_serving touches h h _ _ c.args.lists.now.serving.now (sym c.unwrap.ensures ∙ c.plan_touches.ensures.answer)
