@@ -1,5 +1,6 @@
 -- The competitive bound, by phases. Assumes nothing.
-use Rattle.std.proofs.Common.{◌≡◌, ℕ, suc, ◌+◌, ◌*◌, ◌≤◌, true, List, [], ◌∷◌, ◌++◌, length, inl, inr, append_assoc, append-nil, mul-le-mul_left, arith}
+use Rattle.std.proofs.Common.{◌≡◌, ℕ, suc, ◌+◌, ◌*◌, ◌≤◌, true, List, [], ◌∷◌, ◌++◌}
+use Rattle.std.proofs.Common.{length, inl, inr, append_assoc, append-nil, mul-le-mul_left, arith}
 use Rattle.std.proofs.lemmas.Bool.{cases_lt}
 use Rattle.std.proofs.lemmas.Bool.Decides.{nat_tests}
 use Rattle.base.specs.Lists.{member, distinct, without}
@@ -45,7 +46,8 @@ module _
     (law : (before xs : List ℕ) → distinct xs ≤ k → cost before xs ≤ k) where
   -- the bound for a schedule that holds `held` and serves `rest` with d fetches, with a phase under way
   abbrev Bound : List ℕ → List ℕ → ℕ → Type 0
-  Bound held rest d = (before phase : List ℕ) (e : ℕ) → distinct phase ≤ k → Phase h phase held e → w * cost before (phase ++ rest) ≤ k * (d + e) + k * w
+  Bound held rest d = (before phase : List ℕ) (e : ℕ) → distinct phase ≤ k → Phase h phase held e →
+      w * cost before (phase ++ rest) ≤ k * (d + e) + k * w
 
   -- a touch goes on with the phase or, as key k + 1 of it, begins the next
   bound_touch : (held rest : List ℕ) (x d : ℕ) → Bound held rest d → length held ≤ h → member x held ≡ true →
@@ -66,11 +68,20 @@ module _
   bound (hit {x = x} here s) short before phase e few p =
       bound_touch _ _ x _ (bound s short) short here before phase e few (on_hit p x here)
   bound (fill {held = held} {x = x} new space s) short before phase e few p =
-      omega (arith, bound_touch _ _ x _ (bound s space) space (grind (arith, nat_tests)) before phase (suc e) few (on_fetch p x held (λ z f. f)))
+      omega (
+        arith,
+        bound_touch _ _ x _ (bound s space) space (grind (arith, nat_tests)) before phase (suc e) few
+            (on_fetch p x held (λ z f. f)),
+      )
   bound (swap {held = held} {x = x} new full y old s) short before phase e few p =
       let space : length (x ∷ without y held) ≤ h = omega (arith, length_without y held old) in
-      omega (arith, bound_touch _ _ x _ (bound s space) space (grind (arith, nat_tests)) before phase (suc e) few (on_fetch p x (without y held) (subset_without y held)))
+      omega (
+        arith,
+        bound_touch _ _ x _ (bound s space) space (grind (arith, nat_tests)) before phase (suc e) few
+            (on_fetch p x (without y held) (subset_without y held)),
+      )
 
   -- before the first touch, the phase is empty
-  pub bound_from : {held touches : List ℕ} {d : ℕ} → Demand h held touches d → length held ≤ h → (before : List ℕ) → w * cost before touches ≤ k * d + k * w
+  pub bound_from : {held touches : List ℕ} {d : ℕ} → Demand h held touches d → length held ≤ h → (before : List ℕ) →
+      w * cost before touches ≤ k * d + k * w
   bound_from s short before = omega (arith, bound s short before [] 0 (omega arith) (begins short (λ z f. grind arith)))

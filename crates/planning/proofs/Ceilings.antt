@@ -20,7 +20,8 @@ min_optimal h some touches =
 pub competitive : {Setting State : Type 0} (r : Rules Setting State) → Conservative r → Competitive r
 competitive r law c k h d before touches held one fits short s =
     let some : 1 ≤ k = omega arith in
-    bound_from k h (k - h + 1) some (omega arith) (λ past xs. fetches r (touched r (start r c k) past) xs) (fetches_split r (start r c k)) (law c k some) s short before
+    bound_from k h (k - h + 1) some (omega arith) (λ past xs. fetches r (touched r (start r c k) past) xs) (fetches_split r (start r c k))
+    (law c k some) s short before
 
 -- a count that keeps the bound is at most the ceiling
 under : (w k n f : ℕ) → 1 ≤ w → w * f ≤ n + k * w → f ≤ n / w + k

@@ -20,7 +20,9 @@ abbrev pub last : List ℕ → List ℕ → ℕ
 last keys rest = get_or keys (furthest keys rest) 0
 
 -- the furthest frame is that of the tail, or the first
-furthest_both : (x y : ℕ) (ys rest : List ℕ) (P : ℕ → Type 0) → (place_in x rest < place_in (last (y ∷ ys) rest) rest → P (suc (furthest (y ∷ ys) rest))) → (place_in (last (y ∷ ys) rest) rest ≤ place_in x rest → P 0) → P (furthest (x ∷ (y ∷ ys)) rest)
+furthest_both : (x y : ℕ) (ys rest : List ℕ) (P : ℕ → Type 0) →
+    (place_in x rest < place_in (last (y ∷ ys) rest) rest → P (suc (furthest (y ∷ ys) rest))) →
+    (place_in (last (y ∷ ys) rest) rest ≤ place_in x rest → P 0) → P (furthest (x ∷ (y ∷ ys)) rest)
 furthest_both x y ys rest P later here =
     let a = place_in x rest in
     let b = place_in (last (y ∷ ys) rest) rest in
@@ -31,7 +33,8 @@ pub furthest_lt : (keys rest : List ℕ) → 1 ≤ length keys → furthest keys
 furthest_lt [] rest some = absurd (omega arith)
 furthest_lt (x ∷ []) rest some = omega arith
 furthest_lt (x ∷ (y ∷ ys)) rest some =
-    furthest_both x y ys rest (λ f. f < length (x ∷ (y ∷ ys))) (λ _. omega (arith, furthest_lt (y ∷ ys) rest (omega arith))) (λ _. omega arith)
+    furthest_both x y ys rest (λ f. f < length (x ∷ (y ∷ ys))) (λ _. omega (arith, furthest_lt (y ∷ ys) rest (omega arith)))
+    (λ _. omega arith)
 
 -- no key is touched later than its key
 furthest_all : (keys rest : List ℕ) → All (λ y. place_in y rest ≤ place_in (last keys rest) rest) keys
@@ -53,7 +56,8 @@ furthest_first : (keys rest : List ℕ) (g : ℕ) → g < furthest keys rest →
 furthest_first [] rest g l = absurd (omega arith)
 furthest_first (x ∷ []) rest g l = absurd (omega arith)
 furthest_first (x ∷ (y ∷ ys)) rest zero low =
-    furthest_both x y ys rest (λ f. zero < f → place_in x rest < place_in (get_or (x ∷ (y ∷ ys)) f 0) rest) (λ h l. h) (λ h l. absurd (omega arith)) low
+    furthest_both x y ys rest (λ f. zero < f → place_in x rest < place_in (get_or (x ∷ (y ∷ ys)) f 0) rest) (λ h l. h)
+    (λ h l. absurd (omega arith)) low
 furthest_first (x ∷ (y ∷ ys)) rest (suc g) low =
     furthest_both x y ys rest (λ f. suc g < f → place_in (get_or (y ∷ ys) g 0) rest < place_in (get_or (x ∷ (y ∷ ys)) f 0) rest)
     (λ h l. furthest_first (y ∷ ys) rest g (omega arith))
@@ -70,7 +74,8 @@ lowest_one frames again f g p q = elim (cases_order f g) [
   ]
 ]
 
-pub furthest_lowest : (keys rest : List ℕ) → 1 ≤ length keys → LowestFurthest (length keys) (λ g. place_in (get_or keys g 0) rest) (furthest keys rest)
+pub furthest_lowest : (keys rest : List ℕ) → 1 ≤ length keys →
+    LowestFurthest (length keys) (λ g. place_in (get_or keys g 0) rest) (furthest keys rest)
 furthest_lowest keys rest some = record {
   within = furthest_lt keys rest some;
   most = λ g l. All-get_or (λ y. place_in y rest ≤ place_in (last keys rest) rest) keys g 0 l (furthest_all keys rest);

@@ -1,9 +1,11 @@
 -- Which frame holds a key, once a frame holds another.
-use Rattle.std.proofs.Common.{◌≡◌, ℕ, zero, suc, ◌<◌, ◌≤◌, true, false, cond, eqb, ltb, List, [], ◌∷◌, ◌++◌, map, length, get_or, take, set, is_some, Some, None, Ok, Result, sym, refl, ap, ◌∙◌, inl, inr, arith}
+use Rattle.std.proofs.Common.{◌≡◌, ℕ, zero, suc, ◌<◌, ◌≤◌, true, false, cond, eqb, ltb, List, [], ◌∷◌, ◌++◌, map}
+use Rattle.std.proofs.Common.{length, get_or, take, set, is_some, Some, None, Ok, Result, sym, refl, ap, ◌∙◌, inl, inr, arith}
 use Rattle.base.specs.declared.refusal.Refusal.{Refusal}
 use Rattle.std.proofs.lemmas.Bool.Decides.{nat_tests}
 use Rattle.std.proofs.lemmas.Bool.{cases_Bool, cases_eq, cases_lt, lt-ltb, le-ltb, ne_eqb, or_right}
-use Rattle.std.proofs.lemmas.List.{ext_get_or, get_or-map, get_or-take, length-map, length-take-le, length_push, length-set, get_or_push, get_or_append_left, get_or-set_same, get_or-set_other}
+use Rattle.std.proofs.lemmas.List.{ext_get_or, get_or-map, get_or-take, length-map, length-take-le, length_push}
+use Rattle.std.proofs.lemmas.List.{length-set, get_or_push, get_or_append_left, get_or-set_same, get_or-set_other}
 use Rattle.base.specs.Lists.{member, found_in, Apart}
 use Rattle.policy.specs.Machine.{put}
 use Rattle.policy.specs.Members.{member_index}
@@ -35,10 +37,15 @@ absent index keys x e m = ap is_some e ∙ rw m
 module _ (touches hs : List ℕ) (index : Map) (keys : List ℕ) (f place : ℕ) (q : Shows touches hs index keys)
     (fresh : member (get_or touches place 0) keys ≡ false) (inside : place < length touches) (room : f < length hs) where
   -- the next frame filled
-  pub shows_fill : f ≡ length keys → Shows touches (set hs f place) (with_number index (get_or touches place 0) f) (keys ++ (get_or touches place 0 ∷ []))
+  pub shows_fill : f ≡ length keys →
+      Shows touches (set hs f place) (with_number index (get_or touches place 0) f) (keys ++ (get_or touches place 0 ∷ []))
   shows_fill last = record {
     found = λ y. rw (q.found y, frame_push keys (get_or touches place 0) y fresh, ← last);
-    sized = rw (absent index keys (get_or touches place 0) (q.found (get_or touches place 0)) fresh, q.sized, length_push keys (get_or touches place 0));
+    sized = rw (
+      absent index keys (get_or touches place 0) (q.found (get_or touches place 0)) fresh,
+      q.sized,
+      length_push keys (get_or touches place 0),
+    );
     placed = λ g l. elim (cases_eq g f) [
       | inl e ↦ rw (e, get_or-set_same hs f place 0 room) inside
       | inr n ↦ rw (get_or-set_other hs f g place 0 n) (q.placed g (omega (arith, length_push keys (get_or touches place 0))))
@@ -53,7 +60,8 @@ module _ (touches hs : List ℕ) (index : Map) (keys : List ℕ) (f place : ℕ)
 
   -- a filled frame's key put out
   pub shows_swap : Apart keys → f < length keys →
-      Shows touches (set hs f place) (with_number (after_remove index (get_or keys f 0)) (get_or touches place 0) f) (set keys f (get_or touches place 0))
+      Shows touches (set hs f place) (with_number (after_remove index (get_or keys f 0)) (get_or touches place 0) f)
+      (set keys f (get_or touches place 0))
   shows_swap apart low = record {
     found = λ y. rw (q.found y, frame_set keys f (get_or touches place 0) y apart low fresh);
     sized =
@@ -80,7 +88,8 @@ module _ (touches hs : List ℕ) (index : Map) (keys : List ℕ) (f place : ℕ)
 pub holds_new : (touches hs : List ℕ) (index : Map) (keys : List ℕ) (f filled place : ℕ) → Room touches hs index keys f filled place →
     place < length touches → f < length hs →
     (put_answer (without_frame touches hs index f filled) (get_or touches place 0) ≡ Ok tt) ×
-    Shows touches (set hs f place) (after_put (without_frame touches hs index f filled) (get_or touches place 0) f) (put keys f (get_or touches place 0))
+    Shows touches (set hs f place) (after_put (without_frame touches hs index f filled) (get_or touches place 0) f)
+    (put keys f (get_or touches place 0))
 holds_new touches hs index keys f filled place q inside room = elim (cases_lt f filled) [
   | inl l ↦
       let low : f < length keys = omega (arith, q.counted) in
@@ -98,8 +107,10 @@ holds_new touches hs index keys f filled place q inside room = elim (cases_lt f 
 ]
 
 -- the same, as the calls of an index answer it
-pub holds_by_calls : {K : Type 0} (code : K → ℕ) (keys : List K) (hs : List ℕ) (index out after : Map) (ks : List ℕ) (f filled place : ℕ) (key : K) (a : Result (Unit {0}) Refusal) →
-    out ≡ without_frame (map code keys) hs index f filled → after ≡ after_put out (code key) f → a ≡ put_answer out (code key) → key ≡ get_or keys place key →
+pub holds_by_calls : {K : Type 0} (code : K → ℕ) (keys : List K) (hs : List ℕ) (index out after : Map) (ks : List ℕ) (f filled place : ℕ)
+    (key : K) (a : Result (Unit {0}) Refusal) →
+    out ≡ without_frame (map code keys) hs index f filled → after ≡ after_put out (code key) f → a ≡ put_answer out (code key) →
+    key ≡ get_or keys place key →
     place < length keys → f < length hs → Room (map code keys) hs index ks f filled place →
     (a ≡ Ok tt) × Shows (map code keys) (set hs f place) after (put ks f (get_or (map code keys) place 0))
 holds_by_calls code keys hs index out after ks f filled place key a eo ea er ek inside room q =
@@ -108,7 +119,8 @@ holds_by_calls code keys hs index out after ks f filled place key a eo ea er ek 
     let ex = code_at code keys place key inside ek in
     let h = holds_new xs hs index ks f filled place q (rw length-map inside) room in (
       er ∙ ap (λ m. put_answer m (code key)) eo ∙ ap (put_answer (without_frame xs hs index f filled)) ex ∙ h.0,
-      let e : after ≡ after_put (without_frame xs hs index f filled) x f = ea ∙ ap (λ m. after_put m (code key) f) eo ∙ ap (λ y. after_put (without_frame xs hs index f filled) y f) ex in
+      let e : after ≡ after_put (without_frame xs hs index f filled) x f =
+          ea ∙ ap (λ m. after_put m (code key) f) eo ∙ ap (λ y. after_put (without_frame xs hs index f filled) y f) ex in
           rw e h.1,
     )
 
@@ -120,16 +132,20 @@ pub places_out : (touches hs : List ℕ) (index : Map) (f filled : ℕ) → (wit
 places_out touches hs index f filled = elim (cases_Bool (ltb f filled)) [ inl e ↦ rw e | inr e ↦ rw e ]
 
 -- the held-key list has the keys that the index shows
-shown_keys : (touches hs : List ℕ) (index : Map) (keys : List ℕ) (filled : ℕ) → Shows touches hs index keys → filled ≡ length keys → length keys ≤ length hs → keys_at touches hs filled ≡ keys
+shown_keys : (touches hs : List ℕ) (index : Map) (keys : List ℕ) (filled : ℕ) → Shows touches hs index keys → filled ≡ length keys →
+    length keys ≤ length hs → keys_at touches hs filled ≡ keys
 shown_keys touches hs index keys filled q e wide =
     let long : length (take filled hs) ≡ length keys = length-take-le filled hs (omega arith) ∙ e in
     ext_get_or 0 (keys_at touches hs filled) keys (length-map (take filled hs) (λ p. get_or touches p 0) ∙ long) (λ f l.
     let low : f < length keys = omega (arith, length-map (take filled hs) (λ p. get_or touches p 0)) in
-    get_or-map (λ p. get_or touches p 0) (take filled hs) f 0 0 (omega arith) ∙ ap (λ p. get_or touches p 0) (get_or-take filled hs f 0 (omega arith)) ∙ q.holds f low)
+    get_or-map (λ p. get_or touches p 0) (take filled hs) f 0 0 (omega arith) ∙
+    ap (λ p. get_or touches p 0) (get_or-take filled hs f 0 (omega arith)) ∙ q.holds f low)
 
-module _ (touches hs : List ℕ) (index : Map) (keys : List ℕ) (f filled place : ℕ) (q : Room touches hs index keys f filled place) (wide : length keys ≤ length hs) where
+module _ (touches hs : List ℕ) (index : Map) (keys : List ℕ) (f filled place : ℕ) (q : Room touches hs index keys f filled place)
+    (wide : length keys ≤ length hs) where
   pub room_shown : Room touches hs index (keys_at touches hs filled) f filled place
   room_shown = rw (shown_keys touches hs index keys filled q.shows q.counted wide) q
 
-  pub shows_shown : (hs' : List ℕ) (index' : Map) (x : ℕ) → Shows touches hs' index' (put (keys_at touches hs filled) f x) → Shows touches hs' index' (put keys f x)
+  pub shows_shown : (hs' : List ℕ) (index' : Map) (x : ℕ) → Shows touches hs' index' (put (keys_at touches hs filled) f x) →
+      Shows touches hs' index' (put keys f x)
   shows_shown hs' index' x w = rw (shown_keys touches hs index keys filled q.shows q.counted wide) at w

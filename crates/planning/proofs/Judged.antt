@@ -17,7 +17,8 @@ same_err : {A E : Type 0} (a b : E) → ◌≡◌ {A = Result A E} (Err a) (Err 
 same_err a b h = cc
 
 -- an element's code is the code at its place
-pub code_at : {K : Type 0} (code : K → ℕ) (keys : List K) (i : ℕ) (key : K) → i < length keys → key ≡ get_or keys i key → code key ≡ get_or (map code keys) i 0
+pub code_at : {K : Type 0} (code : K → ℕ) (keys : List K) (i : ℕ) (key : K) → i < length keys → key ≡ get_or keys i key →
+    code key ≡ get_or (map code keys) i 0
 code_at code keys i key l e = ap code e ∙ sym (get_or-map code keys i key 0 l)
 
 -- lists that pass have enough places
@@ -29,7 +30,9 @@ pub record Enough (touches slots k held : ℕ) : Type 0 where
 pub lists_enough : (n slots k held : ℕ) → Ok tt ≡ lists_answer n slots k held → Enough n slots k held
 lists_enough n slots k held e = elim (cases_Bool (leb n most_touches)) [
   | inl a ↦ elim (cases_Bool (leb n slots && leb k held)) [
-    | inl b ↦ let p = and_parts (leb n slots) (leb k held) b in record { few = leb-true n most_touches a; slots_for = leb-true n slots p.0; held_for = leb-true k held p.1 }
+    | inl b ↦
+        let p = and_parts (leb n slots) (leb k held) b in
+        record { few = leb-true n most_touches a; slots_for = leb-true n slots p.0; held_for = leb-true k held p.1 }
     | inr b ↦ absurd (never _ tt (sym (rw (a, b) at e)))
   ]
   | inr a ↦ absurd (never _ tt (sym (rw a at e)))
@@ -39,5 +42,6 @@ module _ {Setting State : Type 0} (r : Rules Setting State) (c : Setting) (k : �
   pub replayed_refused : (e : Refusal) → Err e ≡ lists_answer (length touches) slots k held → Err e ≡ replayed r c k touches slots held
   replayed_refused e h = ap (λ q. result_and q (Ok (fetches r (start r c k) touches))) h
 
-  pub replayed_accepted : Ok tt ≡ lists_answer (length touches) slots k held → replayed r c k touches slots held ≡ Ok (fetches r (start r c k) touches)
+  pub replayed_accepted : Ok tt ≡ lists_answer (length touches) slots k held →
+      replayed r c k touches slots held ≡ Ok (fetches r (start r c k) touches)
   replayed_accepted h = sym (ap (λ q. result_and q (Ok (fetches r (start r c k) touches))) h)

@@ -1,5 +1,6 @@
 -- The backward pass that finds next touches.
-use Rattle.std.proofs.Common.{◌≡◌, ℕ, ◌+◌, ◌<◌, ◌≤◌, true, false, cond, eqb, List, [], ◌∷◌, length, get_or, drop, set, Some, None, Option, unwrap_or, sym, refl, ap, ◌∙◌, inl, inr, arith}
+use Rattle.std.proofs.Common.{◌≡◌, ℕ, ◌+◌, ◌<◌, ◌≤◌, true, false, cond, eqb, List, [], ◌∷◌, length, get_or}
+use Rattle.std.proofs.Common.{drop, set, Some, None, Option, unwrap_or, sym, refl, ap, ◌∙◌, inl, inr, arith}
 use Rattle.std.proofs.lemmas.List.{drop_more, drop_all, length-drop, get_or-set_same, get_or-set_other}
 use Rattle.std.proofs.lemmas.Bool.{cases_Bool, cases_eq, lt-ltb, or_right, cond_both}
 use Rattle.std.proofs.lemmas.Bool.Decides.{nat_tests}
@@ -18,7 +19,8 @@ place_absent y (x ∷ xs) e = let ih = place_absent y xs in grind (arith, nat_te
 
 -- the touch at i, and those behind it
 later_cons : (i x y : ℕ) (rest : List ℕ) →
-    cond (member y (x ∷ rest)) (Some (i + place_in y (x ∷ rest))) None ≡ cond (eqb x y) (Some i) (cond (member y rest) (Some (i + 1 + place_in y rest)) None)
+    cond (member y (x ∷ rest)) (Some (i + place_in y (x ∷ rest))) None ≡
+    cond (eqb x y) (Some i) (cond (member y rest) (Some (i + 1 + place_in y rest)) None)
 later_cons i x y rest = let s : eqb x y ≡ eqb y x = grind (arith, nat_tests) in rw s (elim (cases_Bool (eqb y x)) [
   | inl e ↦ rw e (ap Some (omega arith))
   | inr e ↦ elim (cases_Bool (member y rest)) [ inl m ↦ rw (e, m) (ap Some (omega arith)) | inr m ↦ rw (e, m) ]
@@ -39,7 +41,8 @@ looking_none xs next index places e = record {
   nexts = λ j l h. absurd (omega arith);
 }
 
-module _ (xs next : List ℕ) (index : Map) (places j i : ℕ) (seen : Looking xs next index places j) (before : j ≡ i + 1) (low : i < length xs) (fits : length xs ≤ places) where
+module _ (xs next : List ℕ) (index : Map) (places j i : ℕ) (seen : Looking xs next index places j) (before : j ≡ i + 1)
+    (low : i < length xs) (fits : length xs ≤ places) where
   q : Looking xs next index places (i + 1)
   q = rw before at seen
 
@@ -52,7 +55,8 @@ module _ (xs next : List ℕ) (index : Map) (places j i : ℕ) (seen : Looking x
   looking_more n room e = rw looking_accepted (record {
     found = λ y. ap (cond (eqb (get_or xs i 0) y) (Some i)) (q.found y) ∙ sym (later_cons i (get_or xs i 0) y (drop (i + 1) xs)) ∙
         ap (λ w. cond (member y w) (Some (i + place_in y w)) None) (sym (drop_more xs i 0 low));
-    few = cond_both (has index (get_or xs i 0)) index.size (index.size + 1) (λ n. n + i ≤ length xs) (λ _. omega (arith, q.few)) (λ _. omega (arith, q.few));
+    few = cond_both (has index (get_or xs i 0)) index.size (index.size + 1) (λ n. n + i ≤ length xs) (λ _. omega (arith, q.few))
+        (λ _. omega (arith, q.few));
     slots = q.slots;
     nexts = λ k l h. elim (cases_eq k i) [
       | inl s ↦ rw (s, get_or-set_same next i n 0 room) e

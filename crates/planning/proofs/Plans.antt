@@ -1,6 +1,6 @@
 -- How planning judges, and what its numbers come to.
-use Rattle.std.proofs.Common.{◌≡◌, ℕ, suc, ◌+◌, ◌-◌, ◌*◌, ◌^◌, ◌<◌, ◌≤◌, max, cond, ◌&&◌, leb, List, [], ◌∷◌, ◌++◌, map, length, drop, Ok, Err, Result}
-use Rattle.std.proofs.Common.{sym, refl, ap, ◌∙◌, inl, inr, mul-le-mul_right, div-le_self, arith}
+use Rattle.std.proofs.Common.{◌≡◌, ℕ, suc, ◌+◌, ◌-◌, ◌*◌, ◌^◌, ◌<◌, ◌≤◌, max, cond, ◌&&◌, leb, List, [], ◌∷◌, ◌++◌, map}
+use Rattle.std.proofs.Common.{length, drop, Ok, Err, Result, sym, refl, ap, ◌∙◌, inl, inr, mul-le-mul_right, div-le_self, arith}
 use Rattle.std.specs.Result.{result_and}
 use Rattle.std.proofs.lemmas.Bool.{cases_Bool, and_parts, and_from, leb-true, le-leb, cond_both}
 use Rattle.std.proofs.lemmas.List.{length-map}
@@ -78,7 +78,8 @@ module _ {Setting State : Type 0} (r : Rules Setting State) (c : Setting) (touch
   pub forecast_refused : (e : Refusal) → Err e ≡ plan_answer (length touches) k h (max k h) p → forecasted r c touches k h p ≡ Err e
   forecast_refused e w = sym (ap (λ q. result_and q (Ok (forecast_of r c touches k h))) w)
 
-  pub forecast_accepted : Ok tt ≡ plan_answer (length touches) k h (max k h) p → forecasted r c touches k h p ≡ Ok (forecast_of r c touches k h)
+  pub forecast_accepted : Ok tt ≡ plan_answer (length touches) k h (max k h) p →
+      forecasted r c touches k h p ≡ Ok (forecast_of r c touches k h)
   forecast_accepted w = sym (ap (λ q. result_and q (Ok (forecast_of r c touches k h))) w)
 
 -- with places for both, planning alone passes too
@@ -86,13 +87,17 @@ pub plan_passes : (n k h : ℕ) (p : Places) → Passed n k h (max k h) p → Ok
 plan_passes n k h p q = rw (
   and_from (leb 1 k) (leb k 64) (le-leb 1 k q.frames.0) (le-leb k 64 q.frames.1),
   le-leb n most_touches q.few,
-  and_from (leb n (room_in p)) (leb h p.held) (le-leb n (room_in p) (omega (arith, q.slots_for, q.next_for, q.serving_for))) (le-leb h p.held (omega (arith, q.held_for))),
+  and_from (leb n (room_in p)) (leb h p.held) (le-leb n (room_in p) (omega (arith, q.slots_for, q.next_for, q.serving_for)))
+      (le-leb h p.held (omega (arith, q.held_for))),
   and_from (leb 1 h) (leb h k) (le-leb 1 h q.smaller.0) (le-leb h k q.smaller.1),
 )
 
 -- and so does the replay
 pub replay_passes : (n k h : ℕ) (p : Places) → Passed n k h (max k h) p → Ok tt ≡ lists_answer n p.slots k p.held
-replay_passes n k h p q = rw (le-leb n most_touches q.few, and_from (leb n p.slots) (leb k p.held) (le-leb n p.slots q.slots_for) (le-leb k p.held (omega (arith, q.held_for))))
+replay_passes n k h p q = rw (
+  le-leb n most_touches q.few,
+  and_from (leb n p.slots) (leb k p.held) (le-leb n p.slots q.slots_for) (le-leb k p.held (omega (arith, q.held_for))),
+)
 
 -- and the geometry of its frames is made
 pub geometry_made : (k : ℕ) → 1 ≤ k → k ≤ 64 → judged_numbers k 0 ≡ Ok (k, 0)
@@ -100,7 +105,8 @@ geometry_made k some most = rw (and_from (leb 1 k) (leb k 64) (le-leb 1 k some) 
 
 pub geometry_frames : (k : ℕ) (r : Result Geometry Refusal) (g : Geometry) → 1 ≤ k → k ≤ 64 → built k 0 r → r ≡ Ok g → frames_of g ≡ k
 geometry_frames k r g some most b e =
-    let w : ◌≡◌ {A = Result (ℕ × ℕ) Refusal} (Ok (frames_of g, pins_of g)) (Ok (k, 0)) = sym (ap read_off e) ∙ b ∙ geometry_made k some most in
+    let w : ◌≡◌ {A = Result (ℕ × ℕ) Refusal} (Ok (frames_of g, pins_of g)) (Ok (k, 0)) =
+    sym (ap read_off e) ∙ b ∙ geometry_made k some most in
     ap (λ (q : ℕ × ℕ). q.0) (same_ok _ _ w)
 
 pub geometry_accepted : (k : ℕ) (r : Result Geometry Refusal) (e : Refusal) → 1 ≤ k → k ≤ 64 → built k 0 r → r ≡ Err e → ⊥
@@ -112,18 +118,21 @@ serves_length h keys [] = refl
 serves_length h keys (x ∷ rest) = ap suc (serves_length h (min_keys h keys x rest) rest)
 
 -- what is handed out where nothing is refused: then all was judged good, and the frames stand at the front of the serving list
-pub handed_judged : {A E : Type 0} (judged : Result (Unit {0}) E) (p : Planning A) (a : A) → Ok a ≡ answer_of (result_and judged (Ok p)) → judged ≡ Ok tt
+pub handed_judged : {A E : Type 0} (judged : Result (Unit {0}) E) (p : Planning A) (a : A) → Ok a ≡ answer_of (result_and judged (Ok p)) →
+    judged ≡ Ok tt
 handed_judged (Ok tt) p a e = refl
 handed_judged (Err r) p a e = absurd (never r a (sym e))
 
-pub handed_serving : {A E : Type 0} (judged : Result (Unit {0}) E) (p : Planning A) (a : A) (old : List ℕ) → Ok a ≡ answer_of (result_and judged (Ok p)) →
+pub handed_serving : {A E : Type 0} (judged : Result (Unit {0}) E) (p : Planning A) (a : A) (old : List ℕ) →
+    Ok a ≡ answer_of (result_and judged (Ok p)) →
     serving_after (result_and judged (Ok p)) old ≡ p.serving ++ drop (length p.serving) old
 handed_serving judged p a old e = rw (handed_judged judged p a e)
 
 pub planned_serving : (touches : List ℕ) (k h : ℕ) (p : Places) (a : Plan) (old : List ℕ) → Ok a ≡ answer_of (planned touches k h p) →
     serving_after (planned touches k h p) old ≡ min_serves h [] touches ++ drop (length touches) old
 planned_serving touches k h p a old e =
-    handed_serving (plan_answer (length touches) k h h p) (planning_of touches k h) a old e ∙ ap (λ n. min_serves h [] touches ++ drop n old) (serves_length h [] touches)
+    handed_serving (plan_answer (length touches) k h h p) (planning_of touches k h) a old e ∙
+    ap (λ n. min_serves h [] touches ++ drop n old) (serves_length h [] touches)
 
 -- MIN fetches at most once a touch
 pub min_most : (h : ℕ) (keys touches : List ℕ) → min_fetches h keys touches ≤ length touches

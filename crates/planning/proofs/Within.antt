@@ -31,7 +31,8 @@ pub within_push : (xs : List ℕ) (x : ℕ) (ys : List ℕ) → within (xs ++ (x
 within_push [] x ys = omega arith
 within_push (y ∷ xs) x ys = omega (arith, within_push xs x ys)
 
-pub within_set : (xs : List ℕ) (f x : ℕ) (ys : List ℕ) → f < length xs → within (set xs f x) ys + one (get_or xs f 0) ys ≡ within xs ys + one x ys
+pub within_set : (xs : List ℕ) (f x : ℕ) (ys : List ℕ) → f < length xs →
+    within (set xs f x) ys + one (get_or xs f 0) ys ≡ within xs ys + one x ys
 within_set [] f x ys l = absurd (omega arith)
 within_set (y ∷ xs) zero x ys l = omega arith
 within_set (y ∷ xs) (suc f) x ys l = omega (arith, within_set xs f x ys (omega arith))

@@ -9,5 +9,6 @@ abbrev pub invariant-loop-place : goal.invariant-loop-place
 invariant-loop-place g l =
     SoundIndex g.K.Key.code g.K.Key.spread l.frames.index ×
     (Replaying g.P.Policy.rules (idle (g.P.Policy.model l.initial.policy)) (map g.K.Key.code l.keys) l.frames.held.now
-    (map_of g.K.Key.code l.frames.index) (map_of g.K.Key.code l.initial.frames.index).places l.place (g.P.Policy.model l.policy) l.fetches l.frames.filled ×
+    (map_of g.K.Key.code l.frames.index) (map_of g.K.Key.code l.initial.frames.index).places l.place
+    (g.P.Policy.model l.policy) l.fetches l.frames.filled ×
     (length l.frames.held.now ≡ length l.initial.frames.held.now))

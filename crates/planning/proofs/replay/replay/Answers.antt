@@ -10,7 +10,8 @@ use Rattle.planning.proofs.Judged.{lists_enough, replayed_refused, replayed_acce
 use Rattle.planning.proofs.replay.replay.Goals as goal
 
 -- the lists as they were judged, by the codes of the keys and the number of frames
-listed : {K : Type 0} (code : K → ℕ) (keys : List K) (slots f k held : ℕ) → f ≡ k → lists_answer (length keys) slots f held ≡ lists_answer (length (map code keys)) slots k held
+listed : {K : Type 0} (code : K → ℕ) (keys : List K) (slots f k held : ℕ) → f ≡ k →
+    lists_answer (length keys) slots f held ≡ lists_answer (length (map code keys)) slots k held
 listed code keys slots f k held e = rw (length-map keys code, e)
 
 pub returns-in_err-check_lists : goal.returns-in_err-check_lists
@@ -32,8 +33,10 @@ count_fetches-requires g c =
     let k = frames_of c.args.geometry.now in
     let b = c.frames-frames.ensures.bounded in
     let e = lists_enough _ _ _ _ c.in_ok-check_lists.ensures in
-    let frames : r.frames (g.P.Policy.model c.new-policy.result) ≡ k = ap r.frames c.new-policy.ensures ∙ g.met.P.Policy.shape.first_frames c.args.setting k b.some in
-    let size : length c.new-keys_held.result.held.now ≡ c.frames-frames.result = ap length c.new-keys_held.ensures.held ∙ length-take-le _ _ e.held_for in
+    let frames : r.frames (g.P.Policy.model c.new-policy.result) ≡ k =
+    ap r.frames c.new-policy.ensures ∙ g.met.P.Policy.shape.first_frames c.args.setting k b.some in
+    let size : length c.new-keys_held.result.held.now ≡ c.frames-frames.result =
+    ap length c.new-keys_held.ensures.held ∙ length-take-le _ _ e.held_for in
     record {
       runs = rw (frames, c.new-policy.ensures) (running_start g.met.P.Policy.shape b.some c.args.setting);
       places = (omega (arith, frames, b.most), omega (arith, frames, c.frames-frames.ensures.value, size));
@@ -49,7 +52,8 @@ returns g c =
     let xs = map g.K.Key.code c.args.keys.now in
     record {
       answer = ap Ok (c.count_fetches.ensures ∙ ap (λ s. fetches r (idle s) xs) c.new-policy.ensures) ∙
-          sym (replayed_accepted r c.args.setting _ xs _ _ (c.in_ok-check_lists.ensures ∙ listed g.K.Key.code c.args.keys.now _ _ _ _ c.frames-frames.ensures.value));
+          sym (replayed_accepted r c.args.setting _ xs _ _
+          (c.in_ok-check_lists.ensures ∙ listed g.K.Key.code c.args.keys.now _ _ _ _ c.frames-frames.ensures.value));
       slots = λ e. absurd (true≢false e);
       held = λ e. absurd (true≢false e);
     }

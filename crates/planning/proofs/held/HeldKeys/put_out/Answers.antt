@@ -10,10 +10,12 @@ returns-then-frame-self g c =
     let code = g.K.Key.code in
     let frames = c.args.self.now in
     let filled = c.if-frame-self.true in
-    let key = code_at code c.args.keys.now (get_or frames.held.now c.args.frame 0) c.index-keys-place.result (c.requires.held c.args.frame filled) c.index-keys-place.is in
+    let key = code_at code c.args.keys.now (get_or frames.held.now c.args.frame 0) c.index-keys-place.result
+    (c.requires.held c.args.frame filled) c.index-keys-place.is in
     record {
       sound = c.remove.ensures.sound;
-      map = c.remove.ensures.map ∙ ap (after_remove (map_of code frames.index)) key ∙ sym (cond-true _ _ _ (lt-ltb c.args.frame frames.filled filled));
+      map = c.remove.ensures.map ∙ ap (after_remove (map_of code frames.index)) key ∙
+          sym (cond-true _ _ _ (lt-ltb c.args.frame frames.filled filled));
       held = refl;
       filled = refl;
     }
