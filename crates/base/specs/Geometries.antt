@@ -1,5 +1,6 @@
 -- Which numbers make a geometry, and what it is then. Assumes nothing.
 use Rattle.std.specs.Prelude.{◌≡◌, ℕ, ◌≤◌, cond, ◌&&◌, Ok, Err, Result, nat_le}
+use Rattle.base.specs.declared.limits.TheConstants.{MAX_FRAMES, MAX_PINS}
 use Rattle.base.specs.declared.refusal.Refusal.{Refusal}
 use Rattle.base.specs.declared.refusal.Refusal.TheVariants.{FrameCount, PinPlaceCount}
 use Rattle.base.specs.declared.geometry.Geometry.{Geometry}
@@ -13,13 +14,13 @@ pins_of g = g.pins
 -- the bounds that every geometry keeps
 pub record Bounded (g : Geometry) : Type 0 where
   pub some : 1 ≤ frames_of g
-  pub most : frames_of g ≤ 64
-  pub few : pins_of g ≤ 8
+  pub most : frames_of g ≤ MAX_FRAMES
+  pub few : pins_of g ≤ MAX_PINS
 
 -- how the numbers are judged: the frames first
 abbrev pub judged_numbers : ℕ → ℕ → Result (ℕ × ℕ) Refusal
 judged_numbers frames pins =
-    cond (nat_le 1 frames && nat_le frames 64) (cond (nat_le pins 8) (Ok (frames, pins)) (Err PinPlaceCount)) (Err FrameCount)
+    cond (nat_le 1 frames && nat_le frames MAX_FRAMES) (cond (nat_le pins MAX_PINS) (Ok (frames, pins)) (Err PinPlaceCount)) (Err FrameCount)
 
 -- a geometry by its two numbers
 abbrev pub read_off : Result Geometry Refusal → Result (ℕ × ℕ) Refusal

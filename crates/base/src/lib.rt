@@ -10,6 +10,6 @@ mod ring;
 
 pub use geometry::Geometry;
 pub use key::{Key, Sector, VolumeKey};
-pub use limits::{MAX_FRAMES, MAX_PINS, MAX_TOUCHES, SECTOR_BYTES};
+pub use limits::{MAX_FRAMES, MAX_PINS, MAX_TEXT_BYTES, MAX_TOUCHES, SECTOR_BYTES};
 pub use refusal::Refusal;
 pub use ring::next_in_ring;

@@ -1,4 +1,5 @@
-// The rules' numbers that several layers share.
+// The rules' numbers that several layers share. Code, contracts and definitions speak of them by their names alone, and the rules that
+// stand below keep each to its value.
 
 // The bytes of a sector.
 pub const SECTOR_BYTES: usize = 512;
@@ -11,3 +12,16 @@ pub const MAX_PINS: usize = 8;
 
 // The most touches of a trace, and the most keys of a list.
 pub const MAX_TOUCHES: usize = 4096;
+
+// The bytes of the longest trace.
+pub const MAX_TEXT_BYTES: usize = 32_768;
+
+const _: () = prove!(SECTOR_BYTES == 512);
+
+const _: () = prove!(MAX_FRAMES == 64);
+
+const _: () = prove!(MAX_PINS == 8);
+
+const _: () = prove!(MAX_TOUCHES == 4096);
+
+const _: () = prove!(MAX_TEXT_BYTES == 32_768);

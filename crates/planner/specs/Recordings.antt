@@ -1,5 +1,7 @@
 -- How many places the lists of a recording have. Assumes nothing.
 use Rattle.std.specs.Prelude.{vec_len}
+use Rattle.base.specs.declared.limits.TheConstants.{MAX_FRAMES, MAX_TOUCHES}
+use Rattle.workspace.specs.declared.TheConstants.{SLOTS}
 use Rattle.sheet.specs.Rows.{Lent}
 use Rattle.planner.specs.declared.recording.Recording.{Recording}
 
@@ -17,4 +19,7 @@ lent_by r = record {
 
 -- as many as the longest trace and the largest cache need, and as many slots again
 abbrev pub most_lent : Lent
-most_lent = record { keys = 4096; lists = record { slots = 8192; next = 4096; held = 64; serving = 4096 } }
+most_lent = record {
+  keys = MAX_TOUCHES;
+  lists = record { slots = SLOTS; next = MAX_TOUCHES; held = MAX_FRAMES; serving = MAX_TOUCHES };
+}

@@ -1,5 +1,6 @@
 -- What a sheet shows of a list of touches. Assumes nothing.
 use Rattle.std.specs.Prelude.{ℕ, ◌≤◌, min, cond, List, [], ◌∷◌, ◌++◌, map, length, drop, Ok, Err, Result, nat_le, decimal}
+use Rattle.base.specs.declared.limits.TheConstants.{MAX_FRAMES, MAX_TOUCHES}
 use Rattle.base.specs.declared.refusal.Refusal.TheVariants as refusal
 use Rattle.policy.specs.Machine.{start, fetches}
 use Rattle.policy.specs.Lru.{lru_rules}
@@ -44,22 +45,22 @@ pub record Lent : Type 0 where
 abbrev pub lent : {K : Type 0} → List K → Lists K → Lent
 lent keys lists = record { keys = length keys; lists = places lists }
 
--- lists with places for so many touches and 64 frames
+-- lists with places for so many touches and the most frames
 pub record Roomy {K : Type 0} (touches : ℕ) (lists : Lists K) : Type 0 where
-  pub few : touches ≤ 4096
+  pub few : touches ≤ MAX_TOUCHES
   pub slots : touches ≤ length lists.slots.now
   pub next : touches ≤ length lists.next.now
   pub serving : touches ≤ length lists.serving.now
-  pub held : 64 ≤ length lists.held.now
+  pub held : MAX_FRAMES ≤ length lists.held.now
 
 -- how many touches they have places for
 abbrev pub room : Lent → ℕ
 room l = min l.keys (room_in l.lists)
 
--- the touches of a text that the lists have places for; the held-key list has a place for each of 64 frames
+-- the touches of a text that the lists have places for; the held-key list has a place for each of the most frames
 abbrev pub touches_for : List ℕ → Lent → Result (List ℕ) ReplayFault
 touches_for text l = and_then (judged text (room l))
-    (λ touches. cond (nat_le 64 l.lists.held) (Ok touches) (Err (replay_fault.Refused refusal.TooFewPlaces)))
+    (λ touches. cond (nat_le MAX_FRAMES l.lists.held) (Ok touches) (Err (replay_fault.Refused refusal.TooFewPlaces)))
 
 -- the sheet: a row for each number of frames, or the fault
 abbrev pub sheet_of : List ℕ → Lent → Result (List Row) ReplayFault

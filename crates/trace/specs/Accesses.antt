@@ -2,6 +2,7 @@
 use Rattle.std.specs.Prelude.{ℕ, ◌+◌, ◌-◌, ◌/◌, ◌%◌, ◌==◌, nat_le, Bool, false, cond, ◌&&◌, ◌||◌, List, [], ◌∷◌, length, slice_index_or}
 use Rattle.std.specs.Prelude.{Option, Some, None, is_some, Result, Ok, Err}
 use Rattle.std.specs.Option.{ok_or}
+use Rattle.base.specs.declared.limits.TheConstants.{SECTOR_BYTES}
 use Rattle.base.specs.declared.refusal.Refusal.{Refusal}
 use Rattle.base.specs.declared.refusal.Refusal.TheVariants as refusal
 use Rattle.trace.specs.declared.access.Access.{Access}
@@ -12,6 +13,7 @@ use Rattle.trace.specs.declared.fault.Field.TheVariants as field
 use Rattle.trace.specs.declared.fault.FieldFault.{FieldFault}
 use Rattle.trace.specs.declared.fault.LineFault.{LineFault}
 use Rattle.trace.specs.declared.fault.LineFault.TheVariants as line_fault
+use Rattle.trace.specs.declared.fields.TheConstants.{LAST_UNIT, LAST_SECTOR, MAX_BYTES}
 use Rattle.trace.specs.Splits.{comma, point, parts}
 use Rattle.trace.specs.Numerals.{numeral}
 
@@ -33,15 +35,15 @@ at_most greatest (Some n) = cond (nat_le n greatest) (Some n) None
 abbrev pub number_in : ℕ → Field → ℕ → List ℕ → Result ℕ FieldFault
 number_in n f greatest bs = ok_or (at_most greatest (numeral 10 bs)) (fault_at n f refusal.NotANumber)
 
--- a size is a multiple of 512 from 512 to 65,536
+-- a size is a multiple of a sector's bytes, from one sector to the largest access
 abbrev pub sized : ℕ → Bool
-sized size = (nat_le 512 size && nat_le size 65536) && size % 512 == 0
+sized size = (nat_le SECTOR_BYTES size && nat_le size MAX_BYTES) && size % SECTOR_BYTES == 0
 
 -- the number of sectors that a size field asks for
 abbrev pub sectors_in : ℕ → List ℕ → Result ℕ FieldFault
 sectors_in n bs =
     and_then (ok_or (numeral 10 bs) (fault_at n field.Size refusal.NotANumber)) (λ size.
-    cond (sized size) (Ok (size / 512)) (Err (fault_at n field.Size refusal.BadSize)))
+    cond (sized size) (Ok (size / SECTOR_BYTES)) (Err (fault_at n field.Size refusal.BadSize)))
 
 -- R or r reads, W or w writes
 abbrev pub opcode_of : List ℕ → Option Opcode
@@ -70,13 +72,13 @@ stamp_in n bs = cond (time_stamp bs) (Ok tt) (Err (fault_at n field.TimeStamp re
 
 -- the last sector touched is not above the last one that there is
 abbrev pub reaches : ℕ → ℕ → ℕ → Result (Unit {0}) FieldFault
-reaches n lba sectors = cond (nat_le (lba + sectors - 1) 4294967295) (Ok tt) (Err (fault_at n field.Lba refusal.PastLastSector))
+reaches n lba sectors = cond (nat_le (lba + sectors - 1) LAST_SECTOR) (Ok tt) (Err (fault_at n field.Lba refusal.PastLastSector))
 
 -- what the five fields of line n ask for
 abbrev pub access_in : ℕ → List ℕ → List ℕ → List ℕ → List ℕ → List ℕ → Result Access FieldFault
 access_in n asu lba size opcode stamp =
-    and_then (number_in n field.Asu 255 asu) (λ u.
-    and_then (number_in n field.Lba 4294967295 lba) (λ f.
+    and_then (number_in n field.Asu LAST_UNIT asu) (λ u.
+    and_then (number_in n field.Lba LAST_SECTOR lba) (λ f.
     and_then (sectors_in n size) (λ k.
     and_then (opcode_in n opcode) (λ o.
     and_then (stamp_in n stamp) (λ _.

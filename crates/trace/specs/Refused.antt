@@ -1,6 +1,7 @@
 -- Why a text is refused: its first fault, in the order in which a text is judged. Assumes nothing.
 use Rattle.std.specs.Prelude.{◌≡◌, ℕ, ◌+◌, ◌*◌, ◌^◌, ◌<◌, ◌≤◌, List, [], ◌∷◌, ◌++◌, length, Err, Result, ◌≢◌}
 use Rattle.std.specs.List.{AllByRecursion}
+use Rattle.base.specs.declared.limits.TheConstants.{MAX_TEXT_BYTES, MAX_TOUCHES, SECTOR_BYTES}
 use Rattle.base.specs.declared.refusal.Refusal.{Refusal}
 use Rattle.base.specs.declared.refusal.Refusal.TheVariants as refusal
 use Rattle.trace.specs.declared.fault.Field.{Field}
@@ -10,6 +11,7 @@ use Rattle.trace.specs.declared.fault.LineFault.TheVariants as line_fault
 use Rattle.trace.specs.declared.fault.ReplayFault.{ReplayFault}
 use Rattle.trace.specs.declared.fault.ReplayFault.TheVariants as replay_fault
 use Rattle.trace.specs.declared.fault.Report.{Report}
+use Rattle.trace.specs.declared.fields.TheConstants.{LAST_UNIT, LAST_SECTOR, MAX_SECTORS}
 use Rattle.trace.specs.Splits.{comma, line_feed, carriage_return, Lacks}
 use Rattle.trace.specs.Faults.{reported}
 use Rattle.trace.specs.Traces.{Number, OpcodeText, TimeStamp, Line, Trace}
@@ -38,17 +40,17 @@ pub record UpTo (greatest : ℕ) (bs : List ℕ) : Type 0 where
   pub is : Number 10 bs n
   pub most : n ≤ greatest
 
--- so many bytes are 1 to 128 sectors of 512 bytes
+-- so many bytes are whole sectors, at least one and at most the sectors of the largest access
 pub record Whole (bytes sectors : ℕ) : Type 0 where
-  pub is : bytes ≡ sectors * 512
+  pub is : bytes ≡ sectors * SECTOR_BYTES
   pub some : 1 ≤ sectors
-  pub few : sectors ≤ 128
+  pub few : sectors ≤ MAX_SECTORS
 
 -- the first three fields are good: a unit, a first sector, and the size of so many sectors
 pub record Numbers {line : List ℕ} (f : FiveFields line) (first sectors : ℕ) : Type 0 where
-  pub unit : UpTo 255 f.asu
+  pub unit : UpTo LAST_UNIT f.asu
   pub first_is : Number 10 f.lba first
-  pub first_most : first ≤ 4294967295
+  pub first_most : first ≤ LAST_SECTOR
   pub bytes : ℕ
   pub bytes_are : Number 10 f.size bytes
   pub whole : Whole bytes sectors
@@ -65,12 +67,12 @@ report r n f = record { number = r; line = n; field = f }
 -- sector, the size, the opcode, the time stamp, the last sector, and last the touches so far, in this order.
 pub data Wrong (n t : ℕ) (line : List ℕ) : LineFault → Report → Type 0 where
   field_count : ¬ FiveFields line → Wrong n t line (line_fault.FieldCount n) (report 10 n 0)
-  no_unit : (f : FiveFields line) → ¬ UpTo 255 f.asu → Wrong n t line (field_fault n field.Asu refusal.NotANumber) (report 11 n 1)
-  no_sector : (f : FiveFields line) → UpTo 255 f.asu → ¬ UpTo 4294967295 f.lba →
+  no_unit : (f : FiveFields line) → ¬ UpTo LAST_UNIT f.asu → Wrong n t line (field_fault n field.Asu refusal.NotANumber) (report 11 n 1)
+  no_sector : (f : FiveFields line) → UpTo LAST_UNIT f.asu → ¬ UpTo LAST_SECTOR f.lba →
       Wrong n t line (field_fault n field.Lba refusal.NotANumber) (report 11 n 2)
-  no_size : (f : FiveFields line) → UpTo 255 f.asu → UpTo 4294967295 f.lba → ((bytes : ℕ) → ¬ Number 10 f.size bytes) →
+  no_size : (f : FiveFields line) → UpTo LAST_UNIT f.asu → UpTo LAST_SECTOR f.lba → ((bytes : ℕ) → ¬ Number 10 f.size bytes) →
       Wrong n t line (field_fault n field.Size refusal.NotANumber) (report 11 n 3)
-  bad_size : (f : FiveFields line) → UpTo 255 f.asu → UpTo 4294967295 f.lba → (bytes : ℕ) → Number 10 f.size bytes →
+  bad_size : (f : FiveFields line) → UpTo LAST_UNIT f.asu → UpTo LAST_SECTOR f.lba → (bytes : ℕ) → Number 10 f.size bytes →
       ((sectors : ℕ) → ¬ Whole bytes sectors) → Wrong n t line (field_fault n field.Size refusal.BadSize) (report 12 n 3)
   bad_opcode : (f : FiveFields line) {first sectors : ℕ} → Numbers f first sectors → ¬ OpcodeText f.opcode →
       Wrong n t line (field_fault n field.Opcode refusal.BadOpcode) (report 13 n 4)
@@ -78,25 +80,25 @@ pub data Wrong (n t : ℕ) (line : List ℕ) : LineFault → Report → Type 0 w
       ¬ TimeStamp f.stamp → Wrong n t line (field_fault n field.TimeStamp refusal.BadTimeStamp) (report 14 n 5)
   past_last_sector : (f : FiveFields line) {first sectors : ℕ} → Numbers f first sectors → OpcodeText f.opcode →
       TimeStamp f.stamp → 2 ^ 32 < first + sectors → Wrong n t line (field_fault n field.Lba refusal.PastLastSector) (report 15 n 2)
-  too_many_touches : {ts : List ℕ} → Line line ts → 4096 < t + length ts →
+  too_many_touches : {ts : List ℕ} → Line line ts → MAX_TOUCHES < t + length ts →
       Wrong n t line (line_fault.TooManyTouches n) (report 16 n 0)
 
 -- The first fault of a text that begins with line n, behind t touches: the lines before the wrong one are good, and the touches before
--- it are at most 4,096.
+-- it are within the most.
 pub data FirstWrong : ℕ → ℕ → List ℕ → LineFault → Report → Type 0 where
   here : {n t : ℕ} {line text rest : List ℕ} {f : LineFault} {r : Report} →
       Begins line text rest → Wrong n t line f r → FirstWrong n t text f r
   later : {n t : ℕ} {line text rest ts : List ℕ} {f : LineFault} {r : Report} →
-      Begins line text rest → Line line ts → t + length ts ≤ 4096 → FirstWrong (n + 1) (t + length ts) rest f r →
+      Begins line text rest → Line line ts → t + length ts ≤ MAX_TOUCHES → FirstWrong (n + 1) (t + length ts) rest f r →
       FirstWrong n t text f r
 
 -- What a text is refused for, with a key list of so many places, and its report: its length is judged first, then its lines, and
 -- last the places.
 pub data Refused (text : List ℕ) (places : ℕ) : ReplayFault → Report → Type 0 where
-  trace_too_long : 32768 < length text → Refused text places (replay_fault.Refused refusal.TraceTooLong) (report 9 0 0)
-  wrong_line : {f : LineFault} {r : Report} → length text ≤ 32768 → FirstWrong 1 0 text f r →
+  trace_too_long : MAX_TEXT_BYTES < length text → Refused text places (replay_fault.Refused refusal.TraceTooLong) (report 9 0 0)
+  wrong_line : {f : LineFault} {r : Report} → length text ≤ MAX_TEXT_BYTES → FirstWrong 1 0 text f r →
       Refused text places (replay_fault.Line f) r
-  too_few_places : {ts : List ℕ} → length text ≤ 32768 → Trace text ts → length ts ≤ 4096 → places < length ts →
+  too_few_places : {ts : List ℕ} → length text ≤ MAX_TEXT_BYTES → Trace text ts → length ts ≤ MAX_TOUCHES → places < length ts →
       Refused text places (replay_fault.Refused refusal.TooFewPlaces) (report 18 0 0)
 
 -- A fault is answered exactly if the text is refused for it, and it is reported as that says.

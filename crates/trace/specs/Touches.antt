@@ -2,6 +2,7 @@
 use Rattle.std.specs.Prelude.{◌≡◌, ℕ, zero, suc, ◌+◌, ◌*◌, ◌^◌, cond, List, [], ◌∷◌, ◌++◌, map, length, take, drop, Ok, Err, Result, nat_le}
 use Rattle.base.specs.Keys.{volume_code}
 use Rattle.base.specs.declared.key.volume.VolumeKey.{VolumeKey}
+use Rattle.base.specs.declared.limits.TheConstants.{MAX_TEXT_BYTES, MAX_TOUCHES}
 use Rattle.base.specs.declared.refusal.Refusal.TheVariants as refusal
 use Rattle.trace.specs.declared.access.Access.{Access}
 use Rattle.trace.specs.declared.fault.LineFault.{LineFault}
@@ -20,9 +21,9 @@ sectors_from asu lba (suc n) = (asu * 2 ^ 32 + lba) ∷ sectors_from asu (lba + 
 abbrev pub line_touches : Access → List ℕ
 line_touches a = sectors_from a.asu a.lba a.sectors
 
--- the touches up to and with line n, unless they exceed 4,096
+-- the touches up to and with line n, unless they exceed the most
 abbrev pub so_far : ℕ → ℕ → Result ℕ LineFault
-so_far n t = cond (nat_le t 4096) (Ok t) (Err (line_fault.TooManyTouches n))
+so_far n t = cond (nat_le t MAX_TOUCHES) (Ok t) (Err (line_fault.TooManyTouches n))
 
 -- the touches of lines, the first of which is line n, with t touches before it
 abbrev pub judged_lines : ℕ → ℕ → List (List ℕ) → Result (List ℕ) LineFault
@@ -45,7 +46,7 @@ placed places ts = cond (nat_le (length ts) places) (Ok ts) (Err (replay_fault.R
 -- the touches of a text for a list of so many places: first its length is judged, then its lines, then the places
 abbrev pub judged : List ℕ → ℕ → Result (List ℕ) ReplayFault
 judged text places =
-    cond (nat_le (length text) 32768)
+    cond (nat_le (length text) MAX_TEXT_BYTES)
     (and_then (in_replay (judged_lines 1 0 (lines text))) (placed places))
     (Err (replay_fault.Refused refusal.TraceTooLong))
 

@@ -2,8 +2,10 @@
 use Rattle.std.specs.Prelude.{◌≡◌, ℕ, ◌+◌, ◌*◌, ◌^◌, ◌≤◌, List, [], ◌∷◌, ◌++◌, map, length, take, Ok, codes, Result}
 use Rattle.std.specs.List.{AllByRecursion}
 use Rattle.base.specs.Keys.{volume_code}
+use Rattle.base.specs.declared.limits.TheConstants.{MAX_TEXT_BYTES, MAX_TOUCHES, SECTOR_BYTES}
 use Rattle.base.specs.declared.key.volume.VolumeKey.{VolumeKey}
 use Rattle.trace.specs.declared.fault.ReplayFault.{ReplayFault}
+use Rattle.trace.specs.declared.fields.TheConstants.{LAST_UNIT, MAX_SECTORS}
 use Rattle.trace.specs.Splits.{comma, point, line_feed, carriage_return}
 use Rattle.trace.specs.Numerals.{value}
 use Rattle.trace.specs.Touches.{sectors_from}
@@ -36,16 +38,16 @@ pub record Line (text touches : List ℕ) : Type 0 where
   pub opcode : List ℕ
   pub stamp : List ℕ
   pub text_is : text ≡ asu ++ (comma ∷ (lba ++ (comma ∷ (size ++ (comma ∷ (opcode ++ (comma ∷ stamp)))))))
-  -- what the fields say: a unit, its first sector, and a size of 1 to 128 sectors of 512 bytes
+  -- what the fields say: a unit, its first sector, and a size of so many sectors
   pub unit : ℕ
   pub first : ℕ
   pub sectors : ℕ
   pub asu_is : Number 10 asu unit
-  pub asu_most : unit ≤ 255
+  pub asu_most : unit ≤ LAST_UNIT
   pub lba_is : Number 10 lba first
-  pub size_is : Number 10 size (sectors * 512)
+  pub size_is : Number 10 size (sectors * SECTOR_BYTES)
   pub some : 1 ≤ sectors
-  pub few : sectors ≤ 128
+  pub few : sectors ≤ MAX_SECTORS
   pub opcode_is : OpcodeText opcode
   pub stamp_is : TimeStamp stamp
   -- the last sector touched has a number of 32 bits, and so has the first
@@ -60,10 +62,10 @@ pub data Trace : List ℕ → List ℕ → Type 0 where
   fed : {line ts rest us : List ℕ} → Line line ts → Trace rest us → Trace (line ++ (line_feed ∷ rest)) (ts ++ us)
   returned : {line ts rest us : List ℕ} → Line line ts → Trace rest us → Trace (line ++ (carriage_return ∷ (line_feed ∷ rest))) (ts ++ us)
 
--- the limits: 32,768 bytes, 4,096 touches, and no more touches than places
+-- the limits: the longest text, the most touches, and no more touches than places
 pub record Within (text : List ℕ) (count places : ℕ) : Type 0 where
-  pub short : length text ≤ 32768
-  pub few : count ≤ 4096
+  pub short : length text ≤ MAX_TEXT_BYTES
+  pub few : count ≤ MAX_TOUCHES
   pub room : count ≤ places
 
 -- Reading accepts exactly the traces within the limits. It answers how many touches they have, and leaves these, by their codes,

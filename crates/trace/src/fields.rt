@@ -12,10 +12,23 @@ const NUMBER_DIGITS: usize = 10;
 
 const FRACTION_DIGITS: usize = 9;
 
-// The sizes of an access.
+// The greatest unit number and the greatest sector number.
+const LAST_UNIT: u32 = u8::MAX as u32;
+
+const LAST_SECTOR: u32 = u32::MAX;
+
+// The sizes of an access: up to so many sectors.
+const MAX_SECTORS: u64 = 128;
+
 const SECTOR: u64 = SECTOR_BYTES as u64;
 
-const MAX_BYTES: u64 = 65_536;
+const MAX_BYTES: u64 = MAX_SECTORS * SECTOR;
+
+const _: () = prove!(LAST_UNIT == 255);
+
+const _: () = prove!(LAST_SECTOR == 4_294_967_295);
+
+const _: () = prove!(MAX_BYTES == 65_536);
 
 // The fields' texts are parts of the trace, and `line` is the number of their line.
 #[derive(Clone, Copy)]
@@ -34,8 +47,8 @@ impl Fields<'_> {
         ensures { result ≡ access_in self.now.line self.now.asu.now self.now.lba.now self.now.size.now
             self.now.opcode.now self.now.stamp.now }
     {
-        let asu = self.number(Field::Asu, self.asu, u8::MAX as u32)? as u8;
-        let lba = self.number(Field::Lba, self.lba, u32::MAX)?;
+        let asu = self.number(Field::Asu, self.asu, LAST_UNIT)? as u8;
+        let lba = self.number(Field::Lba, self.lba, LAST_SECTOR)?;
         let sectors = self.sectors()?;
         let opcode = self.opcode()?;
         self.check_time_stamp()?;

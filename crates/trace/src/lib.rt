@@ -10,4 +10,4 @@ mod splits;
 mod touches;
 
 pub use fault::{Field, FieldFault, LineFault, Plain, ReplayFault, Report};
-pub use touches::{MAX_TEXT_BYTES, judge_trace, read_trace};
+pub use touches::{judge_trace, read_trace};

@@ -1,5 +1,6 @@
 // A trace text that is read line by line.
 ghost use Rattle.std.specs.Prelude.{◌≤◌, length};
+ghost use Rattle.base.specs.declared.limits.TheConstants.{MAX_TEXT_BYTES};
 
 mod calls;
 
@@ -10,7 +11,7 @@ pub struct TraceReader<'a> {
     text: &'a [u8],
     place: usize,
     line: u32,
-    ghost short: { length text.now ≤ 32768 },
+    ghost short: { length text.now ≤ MAX_TEXT_BYTES },
     ghost within: { place ≤ length text.now },
     ghost counted: { line ≤ place },
 }

@@ -9,10 +9,7 @@ ghost use Rattle.trace.specs.Refused.{Refuses};
 use crate::access::Access;
 use crate::fault::{LineFault, ReplayFault};
 use crate::reader::TraceReader;
-use base::{MAX_TOUCHES, Refusal, VolumeKey};
-
-// The longest trace.
-pub const MAX_TEXT_BYTES: usize = 32_768;
+use base::{MAX_TEXT_BYTES, MAX_TOUCHES, Refusal, VolumeKey};
 
 // Reads a trace into keys, one for each touch, and answers how many.
 #[tactic(auto, using(crate::proofs::Exact::reads_all, crate::proofs::Exact::reads_refused, crate::proofs::Exact::refuses_first))]
@@ -45,7 +42,7 @@ pub fn judge_trace(text: &[u8], places: usize) -> Result<usize, ReplayFault>
 
 // Judges every line, and answers how many touches they have.
 fn count_touches(text: &[u8]) -> Result<usize, LineFault>
-    requires { length text.now ≤ 32768 }
+    requires { length text.now ≤ MAX_TEXT_BYTES }
     ensures { result ≡ counted (judged_lines 1 0 (lines text.now)) }
 {
     let mut count = 0;
@@ -61,7 +58,7 @@ fn count_touches(text: &[u8]) -> Result<usize, LineFault>
 
 // Writes the keys of a text whose lines are accepted, and which has no more touches than there are places.
 fn write_keys(text: &[u8], keys: &mut [VolumeKey])
-    requires short { length text.now ≤ 32768 }
+    requires short { length text.now ≤ MAX_TEXT_BYTES }
     requires accepted { is_ok (judged_lines 1 0 (lines text.now)) ≡ true }
     requires places { length (touches_in text.now) ≤ length keys.old }
     ensures { Filled (touches_in text.now) keys.old keys.new }

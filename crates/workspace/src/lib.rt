@@ -5,11 +5,10 @@
 ghost use Rattle.std.specs.Prelude.{◌≡◌, IfOk};
 ghost use Rattle.workspace.specs.Sizes.{FullSize};
 
-use base::{Key, MAX_FRAMES, MAX_TOUCHES};
+use base::{Key, MAX_FRAMES, MAX_TEXT_BYTES, MAX_TOUCHES};
 use index::Slot;
 use planning::Lists;
 use std::alloc::{AllocError, Global};
-use trace::MAX_TEXT_BYTES;
 
 // One byte past the longest trace shows that a trace is too long.
 pub const MAX_INPUT_BYTES: u64 = MAX_TEXT_BYTES as u64 + 1;
@@ -17,7 +16,9 @@ pub const MAX_INPUT_BYTES: u64 = MAX_TEXT_BYTES as u64 + 1;
 const _: () = prove!(MAX_INPUT_BYTES > MAX_TEXT_BYTES as u64);
 
 // More than a third of the slots stay free, so that the index answers in a constant number of steps.
-const SLOTS: usize = 8192;
+pub const SLOTS: usize = 8192;
+
+const _: () = prove!(2 * SLOTS > 3 * MAX_TOUCHES);
 
 #[cfg(test)]
 mod tests;

@@ -6,13 +6,13 @@ ghost use Rattle.planning.specs.Minimum.{min_fetches};
 ghost use Rattle.sheet.specs.Rows.{row_of, served, Roomy};
 
 use super::Row;
-use base::{Geometry, Key};
+use base::{Geometry, Key, MAX_FRAMES};
 use planning::{Lists, plan_touches, replay_keys};
 use policy::{Clock, Fifo, Lru};
 
 // The fetches of MIN on so many frames. The lists have enough places, so planning is not refused.
 fn fewest_of_keys<K: Key>(frames: usize, keys: &[K], lists: &mut Lists<'_, K>) -> u64
-    requires frames { (1 ≤ frames) × (frames ≤ 64) }
+    requires frames { (1 ≤ frames) × (frames ≤ MAX_FRAMES) }
     requires roomy { Roomy (length keys.now) lists.old }
     ensures count { result ≡ min_fetches frames [] (map K.Key.code keys.now) }
     ensures serving { lists.new.serving.now ≡ served frames (map K.Key.code keys.now) lists.old.serving.now }

@@ -7,10 +7,11 @@ ghost use Rattle.trace.specs.Reading.{unread, lines_read, Advanced, Stripped};
 use super::TraceReader;
 use crate::line::Line;
 use crate::splits::split_once;
+use base::MAX_TEXT_BYTES;
 
 impl<'a> TraceReader<'a> {
     pub fn new(text: &'a [u8]) -> TraceReader<'a>
-        requires { length text.now ≤ 32768 }
+        requires { length text.now ≤ MAX_TEXT_BYTES }
         ensures text { unread result ≡ text.now }
         ensures line { lines_read result ≡ 0 }
     {
