@@ -1,4 +1,5 @@
 pub mod Refusals
+pub mod Results
 pub mod Geometries
 pub mod Keys
 pub mod Lists

@@ -5,9 +5,10 @@ use Rattle.std.proofs.lemmas.List.{drop_at}
 use Rattle.std.proofs.lemmas.Bool.{cases_Bool, leb-true, le-leb}
 use Rattle.trace.specs.declared.fault.LineFault.{LineFault}
 use Rattle.trace.specs.declared.fault.ReplayFault.{ReplayFault}
-use Rattle.trace.specs.Accesses.{and_then}
+use Rattle.trace.specs.declared.fault.ReplayFault.TheVariants as replay_fault
+use Rattle.base.specs.Results.{and_then, map_err}
 use Rattle.trace.specs.Splits.{lines}
-use Rattle.trace.specs.Touches.{judged, judged_lines, in_replay, placed, counted}
+use Rattle.trace.specs.Touches.{judged, judged_lines, placed, counted}
 use Rattle.base.specs.Geometries.{built}
 use Rattle.base.specs.declared.geometry.Geometry.{Geometry}
 use Rattle.base.specs.declared.refusal.Refusal.{Refusal}
@@ -73,8 +74,8 @@ served_more touches i h old before after e b a =
     rw next (a ∙ ap (λ n. served n touches before) e ∙ ap (λ w. min_serves (get_or frame_counts i 0) [] touches ++ w) behind)
 
 -- touches that fit so many places fit more
-placed_more : (p q : ℕ) (j : Result (List ℕ) LineFault) (ts : List ℕ) → p ≤ q → and_then (in_replay j) (placed p) ≡ Ok ts →
-    (and_then (in_replay j) (placed q) ≡ Ok ts) × (length ts ≤ p)
+placed_more : (p q : ℕ) (j : Result (List ℕ) LineFault) (ts : List ℕ) → p ≤ q → and_then (map_err replay_fault.Line j) (placed p) ≡ Ok ts →
+    (and_then (map_err replay_fault.Line j) (placed q) ≡ Ok ts) × (length ts ≤ p)
 placed_more p q (Err f) ts l e = absurd (never _ _ e)
 placed_more p q (Ok us) ts l e = elim (cases_Bool (leb (length us) p)) [
   | inl a ↦

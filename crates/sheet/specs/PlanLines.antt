@@ -1,6 +1,7 @@
 -- What the line of a plan has, and how it is printed. Assumes nothing.
-use Rattle.std.specs.Prelude.{ℕ, max, List, [], ◌∷◌, ◌++◌, length, Ok, Err, Result, decimal}
+use Rattle.std.specs.Prelude.{ℕ, max, List, [], ◌∷◌, ◌++◌, length, Ok, Result, decimal}
 use Rattle.std.specs.Result.{result_and}
+use Rattle.base.specs.Results.{and_then, map_err}
 use Rattle.base.specs.declared.refusal.Refusal.{Refusal}
 use Rattle.policy.specs.Machine.{start, fetches}
 use Rattle.policy.specs.Lru.{lru_rules}
@@ -12,7 +13,6 @@ use Rattle.planning.specs.Minimum.{min_serves}
 use Rattle.planning.specs.Plan.{Planning, plan_of, plan_answer}
 use Rattle.trace.specs.declared.fault.ReplayFault.{ReplayFault}
 use Rattle.trace.specs.declared.fault.ReplayFault.TheVariants as replay_fault
-use Rattle.trace.specs.Accesses.{and_then}
 use Rattle.trace.specs.Splits.{comma}
 use Rattle.trace.specs.Touches.{judged, accepted}
 use Rattle.sheet.specs.declared.plan_line.PlanLine.{PlanLine}
@@ -36,14 +36,9 @@ lined touches k h p =
     result_and (plan_answer (length touches) k h (max k h) p)
     (Ok (record { answer = line_at touches k h; serving = min_serves h [] touches }))
 
--- a refusal that no line of a trace is to blame for
-abbrev pub as_fault : {T : Type 0} → Result T Refusal → Result T ReplayFault
-as_fault (Ok x) = Ok x
-as_fault (Err r) = Err (replay_fault.Refused r)
-
--- the same for a text, or its fault
+-- the same for a text, or its fault: no line is to blame for a refusal of the plan
 abbrev pub line_of : List ℕ → Lent → ℕ → ℕ → Result (Planning PlanLine) ReplayFault
-line_of text l k h = and_then (judged text l.keys) (λ touches. as_fault (lined touches k h l.lists))
+line_of text l k h = and_then (judged text l.keys) (λ touches. map_err replay_fault.Refused (lined touches k h l.lists))
 
 -- the touches that are read from a text into so many places, and none of a refused one
 abbrev pub read_from : List ℕ → ℕ → List ℕ

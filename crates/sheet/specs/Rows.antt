@@ -1,5 +1,6 @@
 -- What a sheet shows of a list of touches. Assumes nothing.
 use Rattle.std.specs.Prelude.{ℕ, ◌≤◌, min, cond, List, [], ◌∷◌, ◌++◌, map, length, drop, Ok, Err, Result, nat_le, decimal}
+use Rattle.base.specs.Results.{and_then}
 use Rattle.base.specs.declared.limits.TheConstants.{MAX_FRAMES, MAX_TOUCHES}
 use Rattle.base.specs.declared.refusal.Refusal.TheVariants as refusal
 use Rattle.policy.specs.Machine.{start, fetches}
@@ -12,7 +13,6 @@ use Rattle.planning.specs.declared.lists.Lists.{Lists}
 use Rattle.planning.specs.declared.lists.Places.{Places}
 use Rattle.trace.specs.declared.fault.ReplayFault.{ReplayFault}
 use Rattle.trace.specs.declared.fault.ReplayFault.TheVariants as replay_fault
-use Rattle.trace.specs.Accesses.{and_then}
 use Rattle.trace.specs.Splits.{comma}
 use Rattle.trace.specs.Touches.{judged}
 use Rattle.sheet.specs.declared.row.Row.{Row}

@@ -1,6 +1,6 @@
 -- What an accepted step tells of its parts. Assumes nothing.
 use Rattle.std.proofs.Common.{◌≡◌, ℕ, Bool, true, false, cond, Ok, Err, Result, refl, arith}
-use Rattle.trace.specs.Accesses.{and_then}
+use Rattle.base.specs.Results.{and_then}
 
 pub never : {T E : Type 0} {x : T} {e : E} {P : Type 0} → ◌≡◌ {A = Result T E} (Err e) (Ok x) → P
 never h = let z : ◌≡◌ {A = ℕ} 0 1 = cc in absurd (omega arith)

@@ -7,9 +7,11 @@ use Rattle.std.proofs.lemmas.Bool.Decides.{nat_tests}
 use Rattle.trace.specs.declared.access.Access.{Access}
 use Rattle.trace.specs.declared.access.Opcode.{Opcode}
 use Rattle.trace.specs.declared.access.Opcode.TheVariants.{Read, Write}
+use Rattle.trace.specs.declared.fault.LineFault.TheVariants as line_fault
 use Rattle.trace.specs.Splits.{lines, Lacks}
 use Rattle.trace.specs.Numerals.{digit, all_digits, numeral}
-use Rattle.trace.specs.Accesses.{and_then, at_most, sized, sectors_in, opcode_of, opcode_in, time_stamp, stamp_in, reaches, access_in, in_line, access_of}
+use Rattle.trace.specs.Accesses.{up_to, sized, sectors_in, opcode_of, opcode_in, time_stamp, stamp_in, reaches, access_in, access_of}
+use Rattle.base.specs.Results.{and_then, map_err}
 use Rattle.trace.specs.Touches.{judged_lines}
 use Rattle.trace.specs.Refused.{to_return, FiveFields, UpTo, Whole, Numbers}
 use Rattle.trace.specs.Traces.{Number, OpcodeText, upper_r, lower_r, upper_w, lower_w, TimeStamp, whole, fraction, Line, Trace, none, last, fed, returned}
@@ -55,7 +57,7 @@ opcode_lacks mark l lower_r = (λ e. omega arith, tt)
 opcode_lacks mark l upper_w = (λ e. omega arith, tt)
 opcode_lacks mark l lower_w = (λ e. omega arith, tt)
 
-pub up_to_numeral : {greatest : ℕ} {bs : List ℕ} (u : UpTo greatest bs) → at_most greatest (numeral 10 bs) ≡ Some u.n
+pub up_to_numeral : {greatest : ℕ} {bs : List ℕ} (u : UpTo greatest bs) → up_to greatest (numeral 10 bs) ≡ Some u.n
 up_to_numeral {greatest} u = rw (number_numeral u.is, le-leb u.n greatest u.most)
 
 pub whole_sized : {bytes sectors : ℕ} → Whole bytes sectors → sized bytes ≡ true
@@ -115,7 +117,7 @@ module _ {bs ts : List ℕ} (h : Line bs ts) where
       let last = le-leb (h.first + h.sectors - 1) 4294967295 reach in
       let fields : access_in n h.asu h.lba h.size h.opcode h.stamp ≡ Ok line_access =
       numbers_access numbers n ∙ rw ((opcode_asked h.opcode_is).1, stamp_stamped h.stamp_is, last) in
-      fields_access line_fields n ∙ ap in_line fields
+      fields_access line_fields n ∙ ap (map_err line_fault.Field) fields
 
   line_lacks : (mark : ℕ) → mark < 44 → Lacks mark bs
   line_lacks mark l =

@@ -7,7 +7,7 @@ use Rattle.trace.specs.declared.fault.ReplayFault.{ReplayFault}
 use Rattle.trace.specs.declared.fault.Report.{Report}
 use Rattle.trace.specs.Splits.{parts}
 use Rattle.trace.specs.Numerals.{numeral}
-use Rattle.trace.specs.Accesses.{at_most, sized, opcode_of, time_stamp}
+use Rattle.trace.specs.Accesses.{up_to, sized, opcode_of, time_stamp}
 use Rattle.trace.specs.Touches.{sectors_from}
 use Rattle.trace.specs.Traces.{Number, OpcodeText, TimeStamp, Line, Trace, none, last, fed, returned, Within}
 use Rattle.trace.specs.Refused.{Begins, to_end, to_feed, to_return, FiveFields, UpTo, Whole, Numbers, Wrong, FirstWrong, Refused, field_count, no_unit, no_sector, no_size, bad_size, bad_opcode, bad_time_stamp, past_last_sector, too_many_touches, here, later, trace_too_long, wrong_line, too_few_places}
@@ -31,7 +31,7 @@ five_or_not line =
     by_test (eqb (length (parts 44 line)) 5) (λ e. fields_cut line (eqb-true _ 5 e)) (λ f. eq-eqb _ 5 (ap length (fields_parts f)))
 
 up_to_or_not : (greatest : ℕ) (bs : List ℕ) → UpTo greatest bs ⊎ ¬ UpTo greatest bs
-up_to_or_not greatest bs = by_option (at_most greatest (numeral 10 bs)) (up_to_read greatest bs) (λ u. (u.n, up_to_numeral u))
+up_to_or_not greatest bs = by_option (up_to greatest (numeral 10 bs)) (up_to_read greatest bs) (λ u. (u.n, up_to_numeral u))
 
 number_or_not : (bs : List ℕ) → ((n : ℕ) × Number 10 bs n) ⊎ ¬ ((n : ℕ) × Number 10 bs n)
 number_or_not bs = by_option (numeral 10 bs) (λ n e. (n, number_read 10 bs n e)) (λ p. (p.0, number_numeral p.1))

@@ -6,7 +6,8 @@ use Rattle.trace.specs.declared.access.Access.{Access}
 use Rattle.trace.specs.declared.fault.LineFault.{LineFault}
 use Rattle.trace.specs.declared.fault.LineFault.TheVariants as line_fault
 use Rattle.trace.specs.Splits.{led, parts, Lacks}
-use Rattle.trace.specs.Accesses.{access_in, in_line, access_of}
+use Rattle.trace.specs.Accesses.{access_in, access_of}
+use Rattle.base.specs.Results.{map_err}
 use Rattle.trace.specs.Refused.{FiveFields}
 use Rattle.trace.proofs.Splitting.{parts_none, parts_cut, rejoined, rejoined_parts}
 
@@ -55,8 +56,8 @@ module _ {line : List ℕ} (f : FiveFields line) where
       ∙ ap (λ ps. f.opcode ∷ ps) (parts_none 44 f.stamp f.apart.1.1.1.1.0))))
 
   -- what the line asks for is what its fields ask for
-  pub fields_access : (n : ℕ) → access_of n line ≡ in_line (access_in n f.asu f.lba f.size f.opcode f.stamp)
+  pub fields_access : (n : ℕ) → access_of n line ≡ map_err line_fault.Field (access_in n f.asu f.lba f.size f.opcode f.stamp)
   fields_access n =
       let F : List (List ℕ) → Result Access LineFault =
-      λ fs. cond (eqb (length fs) 5) (in_line (access_in n (get_or fs 0 []) (get_or fs 1 []) (get_or fs 2 []) (get_or fs 3 []) (get_or fs 4 []))) (Err (line_fault.FieldCount n)) in
+      λ fs. cond (eqb (length fs) 5) (map_err line_fault.Field (access_in n (get_or fs 0 []) (get_or fs 1 []) (get_or fs 2 []) (get_or fs 3 []) (get_or fs 4 []))) (Err (line_fault.FieldCount n)) in
       ap F fields_parts

@@ -4,7 +4,8 @@ use Rattle.std.proofs.lemmas.Bool.{le-leb, leb-true}
 use Rattle.trace.specs.declared.access.Access.{Access}
 use Rattle.trace.specs.declared.fault.LineFault.{LineFault}
 use Rattle.trace.specs.declared.fault.LineFault.TheVariants as line_fault
-use Rattle.trace.specs.Accesses.{and_then, access_of}
+use Rattle.trace.specs.Accesses.{access_of}
+use Rattle.base.specs.Results.{and_then}
 use Rattle.trace.specs.Touches.{line_touches, so_far, judged_lines}
 use Rattle.trace.proofs.Accepted.{ok_same, then_parts, cond_parts}
 use Rattle.trace.proofs.Sectors.{length-upward}

@@ -10,7 +10,8 @@ use Rattle.trace.specs.declared.fault.ReplayFault.{ReplayFault}
 use Rattle.trace.specs.declared.fault.Report.{Report}
 use Rattle.trace.specs.Splits.{parts, lines}
 use Rattle.trace.specs.Numerals.{numeral}
-use Rattle.trace.specs.Accesses.{at_most, sized, sectors_in, fault_at, opcode_of, time_stamp, access_in, in_line, access_of}
+use Rattle.trace.specs.Accesses.{up_to, sized, sectors_in, fault_at, opcode_of, time_stamp, access_in, access_of}
+use Rattle.base.specs.Results.{map_err}
 use Rattle.trace.specs.Touches.{judged_lines, judged}
 use Rattle.trace.specs.Faults.{line_report, reported}
 use Rattle.trace.specs.Traces.{Number, OpcodeText, TimeStamp, Line}
@@ -25,7 +26,7 @@ none_from_absurd : {T : Type 0} (o : Option T) → ((x : T) → o ≡ Some x →
 none_from_absurd None h = refl
 none_from_absurd (Some x) h = absurd (h x refl)
 
-up_to_none : (greatest : ℕ) (bs : List ℕ) → ¬ UpTo greatest bs → at_most greatest (numeral 10 bs) ≡ None
+up_to_none : (greatest : ℕ) (bs : List ℕ) → ¬ UpTo greatest bs → up_to greatest (numeral 10 bs) ≡ None
 up_to_none greatest bs h = none_from_absurd _ (λ n e. h (up_to_read greatest bs n e))
 
 opcode_none : (bs : List ℕ) → ¬ OpcodeText bs → opcode_of bs ≡ None
@@ -44,7 +45,7 @@ size_refused n bs bytes e h =
 -- a line with a wrong field
 module _ (n : ℕ) {line : List ℕ} (f : FiveFields line) where
   fields_refused : {e : FieldFault} → access_in n f.asu f.lba f.size f.opcode f.stamp ≡ Err e → access_of n line ≡ Err (line_fault.Field e)
-  fields_refused h = fields_access f n ∙ ap in_line h
+  fields_refused h = fields_access f n ∙ ap (map_err line_fault.Field) h
 
   unit_refused : ¬ UpTo 255 f.asu → access_of n line ≡ Err (field_fault n field.Asu refusal.NotANumber)
   unit_refused h = fields_refused (rw (up_to_none 255 f.asu h))

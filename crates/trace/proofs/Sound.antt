@@ -6,7 +6,7 @@ use Rattle.std.proofs.lemmas.Option.{none-some, cond_some}
 use Rattle.trace.specs.declared.access.Opcode.{Opcode}
 use Rattle.trace.specs.Splits.{parts}
 use Rattle.trace.specs.Numerals.{digit, all_digits, value, numeral}
-use Rattle.trace.specs.Accesses.{at_most, sized, opcode_of, stamp_parts, time_stamp}
+use Rattle.trace.specs.Accesses.{up_to, sized, opcode_of, stamp_parts, time_stamp}
 use Rattle.trace.specs.Traces.{Number, OpcodeText, upper_r, lower_r, upper_w, lower_w, TimeStamp, whole, fraction}
 use Rattle.trace.specs.Refused.{UpTo, Whole}
 use Rattle.trace.proofs.Splitting.{rejoined, rejoined_parts}
@@ -29,14 +29,14 @@ number_read most bs n e =
     let r = and_parts (leb 1 (length bs)) (leb (length bs) most) q.0 in
     record { some = leb-true 1 (length bs) r.0; few = leb-true (length bs) most r.1; digits = all_numeric bs q.1; writes = p.1 }
 
-most_read : (m : ℕ) (o : Option ℕ) (n : ℕ) → at_most m o ≡ Some n → (o ≡ Some n) × (n ≤ m)
+most_read : (m : ℕ) (o : Option ℕ) (n : ℕ) → up_to m o ≡ Some n → (o ≡ Some n) × (n ≤ m)
 most_read m None n e = absurd (none-some _ e)
 most_read m (Some k) n e =
     let p = cond_some (leb k m) k n e in
     let low = leb-true k m p.0 in
     (ap (λ z. Some z) p.1, subst (λ z. z ≤ m) p.1 low)
 
-pub up_to_read : (greatest : ℕ) (bs : List ℕ) (n : ℕ) → at_most greatest (numeral 10 bs) ≡ Some n → UpTo greatest bs
+pub up_to_read : (greatest : ℕ) (bs : List ℕ) (n : ℕ) → up_to greatest (numeral 10 bs) ≡ Some n → UpTo greatest bs
 up_to_read greatest bs n e =
     let p = most_read greatest (numeral 10 bs) n e in
     record { n = n; is = number_read 10 bs n p.0; most = p.1 }

@@ -2,6 +2,7 @@
 use Rattle.std.specs.Prelude.{ℕ, ◌+◌, ◌-◌, ◌/◌, ◌%◌, ◌==◌, nat_le, Bool, false, cond, ◌&&◌, ◌||◌, List, [], ◌∷◌, length, slice_index_or}
 use Rattle.std.specs.Prelude.{Option, Some, None, is_some, Result, Ok, Err}
 use Rattle.std.specs.Option.{ok_or}
+use Rattle.base.specs.Results.{and_then, map_err}
 use Rattle.base.specs.declared.limits.TheConstants.{SECTOR_BYTES}
 use Rattle.base.specs.declared.refusal.Refusal.{Refusal}
 use Rattle.base.specs.declared.refusal.Refusal.TheVariants as refusal
@@ -17,23 +18,18 @@ use Rattle.trace.specs.declared.fields.TheConstants.{LAST_UNIT, LAST_SECTOR, MAX
 use Rattle.trace.specs.Splits.{comma, point, parts}
 use Rattle.trace.specs.Numerals.{numeral}
 
--- goes on with what was accepted, and stops at the first refusal
-abbrev pub and_then : {T U E : Type 0} → Result T E → (T → Result U E) → Result U E
-and_then (Ok x) f = f x
-and_then (Err e) f = Err e
-
 -- the fault of a field of line n
 abbrev pub fault_at : ℕ → Field → Refusal → FieldFault
 fault_at n f r = record { line = n; field = f; refusal = r }
 
 -- a number that is not above the greatest
-abbrev pub at_most : ℕ → Option ℕ → Option ℕ
-at_most greatest None = None
-at_most greatest (Some n) = cond (nat_le n greatest) (Some n) None
+abbrev pub up_to : ℕ → Option ℕ → Option ℕ
+up_to greatest None = None
+up_to greatest (Some n) = cond (nat_le n greatest) (Some n) None
 
 -- the number in a field, up to a greatest one
 abbrev pub number_in : ℕ → Field → ℕ → List ℕ → Result ℕ FieldFault
-number_in n f greatest bs = ok_or (at_most greatest (numeral 10 bs)) (fault_at n f refusal.NotANumber)
+number_in n f greatest bs = ok_or (up_to greatest (numeral 10 bs)) (fault_at n f refusal.NotANumber)
 
 -- a size is a multiple of a sector's bytes, from one sector to the largest access
 abbrev pub sized : ℕ → Bool
@@ -85,20 +81,15 @@ access_in n asu lba size opcode stamp =
     and_then (reaches n f k) (λ _.
     Ok (record { asu = u; lba = f; sectors = k; opcode = o })))))))
 
--- a field's fault is carried inside its line's
-abbrev pub in_line : {T : Type 0} → Result T FieldFault → Result T LineFault
-in_line (Ok x) = Ok x
-in_line (Err e) = Err (line_fault.Field e)
-
 -- the fields stand between commas
 abbrev pub fields : List ℕ → List (List ℕ)
 fields bs = parts comma bs
 
--- what line n asks for
+-- what line n asks for: a field's fault is carried inside its line's
 abbrev pub access_of : ℕ → List ℕ → Result Access LineFault
 access_of n bs =
     cond (length (fields bs) == 5)
-    (in_line (access_in n
+    (map_err line_fault.Field (access_in n
     (slice_index_or (fields bs) 0 []) (slice_index_or (fields bs) 1 []) (slice_index_or (fields bs) 2 [])
     (slice_index_or (fields bs) 3 []) (slice_index_or (fields bs) 4 [])))
     (Err (line_fault.FieldCount n))

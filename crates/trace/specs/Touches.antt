@@ -1,5 +1,6 @@
 -- The touches of a trace, as codes of volume keys, and how a text is judged line by line. Assumes nothing.
 use Rattle.std.specs.Prelude.{◌≡◌, ℕ, zero, suc, ◌+◌, ◌*◌, ◌^◌, cond, List, [], ◌∷◌, ◌++◌, map, length, take, drop, Ok, Err, Result, nat_le}
+use Rattle.base.specs.Results.{and_then, map_err}
 use Rattle.base.specs.Keys.{volume_code}
 use Rattle.base.specs.declared.key.volume.VolumeKey.{VolumeKey}
 use Rattle.base.specs.declared.limits.TheConstants.{MAX_TEXT_BYTES, MAX_TOUCHES}
@@ -10,7 +11,7 @@ use Rattle.trace.specs.declared.fault.LineFault.TheVariants as line_fault
 use Rattle.trace.specs.declared.fault.ReplayFault.{ReplayFault}
 use Rattle.trace.specs.declared.fault.ReplayFault.TheVariants as replay_fault
 use Rattle.trace.specs.Splits.{lines}
-use Rattle.trace.specs.Accesses.{and_then, access_of}
+use Rattle.trace.specs.Accesses.{access_of}
 
 -- the codes of so many sectors of a unit, upward from the first
 abbrev pub sectors_from : ℕ → ℕ → ℕ → List ℕ
@@ -34,11 +35,6 @@ judged_lines n t (l ∷ ls) =
     and_then (judged_lines (n + 1) s ls) (λ more.
     Ok (line_touches a ++ more))))
 
--- a line's fault is carried inside the replay's
-abbrev pub in_replay : {T : Type 0} → Result T LineFault → Result T ReplayFault
-in_replay (Ok x) = Ok x
-in_replay (Err e) = Err (replay_fault.Line e)
-
 -- the touches fit a list of so many places
 abbrev pub placed : ℕ → List ℕ → Result (List ℕ) ReplayFault
 placed places ts = cond (nat_le (length ts) places) (Ok ts) (Err (replay_fault.Refused refusal.TooFewPlaces))
@@ -47,7 +43,7 @@ placed places ts = cond (nat_le (length ts) places) (Ok ts) (Err (replay_fault.R
 abbrev pub judged : List ℕ → ℕ → Result (List ℕ) ReplayFault
 judged text places =
     cond (nat_le (length text) MAX_TEXT_BYTES)
-    (and_then (in_replay (judged_lines 1 0 (lines text))) (placed places))
+    (and_then (map_err replay_fault.Line (judged_lines 1 0 (lines text))) (placed places))
     (Err (replay_fault.Refused refusal.TraceTooLong))
 
 -- how many touches were accepted
