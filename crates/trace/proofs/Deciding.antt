@@ -2,8 +2,7 @@
 use Rattle.std.proofs.Common.{◌≡◌, ℕ, zero, suc, ◌+◌, ◌^◌, ◌<◌, ◌≤◌, ◌⊎◌, Bool, true, false, leb, eqb, List, [], ◌∷◌, ◌++◌, length, Some, None, Option, sym, refl, ap, subst, append-nil, inl, inr, arith, length-append}
 use Rattle.std.proofs.lemmas.Bool.{cases_Bool, leb-true, leb-false, eqb-true, eq-eqb, false≢true}
 use Rattle.std.proofs.lemmas.Option.{none-some}
-use Rattle.trace.specs.declared.fault.LineFault.{LineFault}
-use Rattle.trace.specs.declared.fault.ReplayFault.{ReplayFault}
+use Rattle.base.specs.declared.limits.TheConstants.{MAX_TOUCHES}
 use Rattle.trace.specs.declared.fault.Report.{Report}
 use Rattle.trace.specs.Splits.{parts}
 use Rattle.trace.specs.Numerals.{numeral}
@@ -48,18 +47,20 @@ stamp_or_not bs = by_test (time_stamp bs) (stamp_read bs) stamp_stamped
 at_most_or_above : (m n : ℕ) → (m ≤ n) ⊎ (n < m)
 at_most_or_above m n = elim (cases_Bool (leb m n)) [ inl e ↦ inl (leb-true m n e) | inr e ↦ inr (leb-false m n e) ]
 
-record WrongLine (n t : ℕ) (line : List ℕ) : Type 0 where
-  f : LineFault
-  r : Report
-  is : Wrong n t line f r
+-- there is a fault, with its report
+pub record Faulty {F : Type 0} (Fault : F → Report → Type 0) : Type 0 where
+  pub f : F
+  pub r : Report
+  pub is : Fault f r
 
-record GoodLine (t : ℕ) (line : List ℕ) : Type 0 where
+-- there are touches, and with the t before them no more than the most
+record Good (Touches : List ℕ → Type 0) (t : ℕ) : Type 0 where
   ts : List ℕ
-  good : Line line ts
-  few : t + length ts ≤ 4096
+  good : Touches ts
+  few : t + length ts ≤ MAX_TOUCHES
 
 module _ (n t : ℕ) (line : List ℕ) (f : FiveFields line) where
-  line_behind_numbers : {first sectors : ℕ} → Numbers f first sectors → WrongLine n t line ⊎ GoodLine t line
+  line_behind_numbers : {first sectors : ℕ} → Numbers f first sectors → Faulty (Wrong n t line) ⊎ Good (Line line) t
   line_behind_numbers {first} {sectors} m = elim (opcode_or_not f.opcode) [
     | inr h ↦ inl (record { f = _; r = _; is = bad_opcode f m h })
     | inl o ↦ elim (stamp_or_not f.stamp) [
@@ -96,7 +97,7 @@ module _ (n t : ℕ) (line : List ℕ) (f : FiveFields line) where
     ]
   ]
 
-line_decided : (n t : ℕ) (line : List ℕ) → WrongLine n t line ⊎ GoodLine t line
+line_decided : (n t : ℕ) (line : List ℕ) → Faulty (Wrong n t line) ⊎ Good (Line line) t
 line_decided n t line = elim (five_or_not line) [
   | inr h ↦ inl (record { f = _; r = _; is = field_count h })
   | inl f ↦ elim (up_to_or_not 255 f.asu) [
@@ -126,17 +127,7 @@ trace_more {line} {text} {rest} {ts} {us} (to_end some lacks) h r few =
 trace_more (to_feed lacks kept) h r few = fed h r
 trace_more (to_return lacks) h r few = returned h r
 
-record WrongText (n t : ℕ) (text : List ℕ) : Type 0 where
-  f : LineFault
-  r : Report
-  is : FirstWrong n t text f r
-
-record GoodText (t : ℕ) (text : List ℕ) : Type 0 where
-  ts : List ℕ
-  good : Trace text ts
-  few : t + length ts ≤ 4096
-
-lines_decided : (most : ℕ) (text : List ℕ) → length text ≤ most → (n t : ℕ) → t ≤ 4096 → WrongText n t text ⊎ GoodText t text
+lines_decided : (most : ℕ) (text : List ℕ) → length text ≤ most → (n t : ℕ) → t ≤ 4096 → Faulty (FirstWrong n t text) ⊎ Good (Trace text) t
 lines_decided most [] l n t few = inr (record { ts = []; good = none; few = omega (arith, few) })
 lines_decided zero (b ∷ bs) l n t few = absurd (omega (arith, l))
 lines_decided (suc most) (b ∷ bs) l n t few =
@@ -153,17 +144,12 @@ lines_decided (suc most) (b ∷ bs) l n t few =
       ]
     ]
 
-pub record RefusedText (text : List ℕ) (places : ℕ) : Type 0 where
-  pub f : ReplayFault
-  pub r : Report
-  pub is : Refused text places f r
-
 pub record AcceptedText (text : List ℕ) (places : ℕ) : Type 0 where
   pub ts : List ℕ
   pub trace : Trace text ts
   pub within : Within text (length ts) places
 
-pub decided : (text : List ℕ) (places : ℕ) → RefusedText text places ⊎ AcceptedText text places
+pub decided : (text : List ℕ) (places : ℕ) → Faulty (Refused text places) ⊎ AcceptedText text places
 decided text places = elim (at_most_or_above (length text) 32768) [
   | inr long ↦ inl (record { f = _; r = _; is = trace_too_long long })
   | inl short ↦ elim (lines_decided (length text) text (omega arith) 1 0 (omega arith)) [
