@@ -1,5 +1,5 @@
 -- Every trace within the limits is accepted. Assumes nothing.
-use Rattle.std.proofs.Common.{◌≡◌, ℕ, ◌+◌, ◌-◌, ◌*◌, ◌/◌, ◌%◌, ◌<◌, ◌≤◌, true, false, ◌&&◌, List, [], ◌∷◌, ◌++◌, length, is_some, Some, Ok, sym, refl, ap, ◌∙◌, subst, append-nil, arith, length-append}
+use Rattle.std.proofs.Common.{◌≡◌, ℕ, ◌+◌, ◌-◌, ◌/◌, ◌%◌, ◌<◌, ◌≤◌, true, false, ◌&&◌, List, [], ◌∷◌, ◌++◌, length, is_some, Some, Ok, sym, refl, ap, ◌∙◌, subst, append-nil, arith, length-append}
 use Rattle.std.specs.List.{AllByRecursion}
 use Rattle.std.proofs.ByRecursion.{All-append}
 use Rattle.std.proofs.lemmas.Bool.{le-leb}
@@ -13,8 +13,8 @@ use Rattle.trace.specs.Numerals.{digit, all_digits, numeral}
 use Rattle.trace.specs.Accesses.{up_to, sized, sectors_in, opcode_of, opcode_in, time_stamp, stamp_in, reaches, access_in, access_of}
 use Rattle.base.specs.Results.{and_then, map_err}
 use Rattle.trace.specs.Touches.{judged_lines}
-use Rattle.trace.specs.Refused.{to_return, FiveFields, UpTo, Whole, Numbers}
-use Rattle.trace.specs.Traces.{Number, OpcodeText, upper_r, lower_r, upper_w, lower_w, TimeStamp, whole, fraction, Line, Trace, none, last, fed, returned}
+use Rattle.trace.specs.Refused.{to_return}
+use Rattle.trace.specs.Traces.{FiveFields, UpTo, Whole, Numbers, Number, OpcodeText, upper_r, lower_r, upper_w, lower_w, TimeStamp, whole, fraction, Line, Trace, none, last, fed, returned}
 use Rattle.trace.proofs.Numerals.{numeral_read}
 use Rattle.trace.proofs.Beginnings.{begins_lines}
 use Rattle.trace.proofs.Fives.{fields_access}
@@ -83,64 +83,32 @@ numbers_access {line} {f} {first} {sectors} m n =
 
 module _ {bs ts : List ℕ} (h : Line bs ts) where
   abbrev line_access : Access
-  line_access = record { asu = h.unit; lba = h.first; sectors = h.sectors; opcode = (opcode_asked h.opcode_is).0 }
-
-  abbrev line_fields : FiveFields bs
-  line_fields = record {
-    asu = h.asu;
-    lba = h.lba;
-    size = h.size;
-    opcode = h.opcode;
-    stamp = h.stamp;
-    line_is = h.text_is;
-    apart = (
-      number_lacks h.asu_is 44 refl,
-      (
-        number_lacks h.lba_is 44 refl,
-        (number_lacks h.size_is 44 refl, (opcode_lacks 44 (omega arith) h.opcode_is, (stamp_lacks 44 (omega arith) h.stamp_is, tt))),
-      ),
-    );
-  }
+  line_access = record { asu = h.numbers.unit.n; lba = h.first; sectors = h.sectors; opcode = (opcode_asked h.opcode_is).0 }
 
   pub line_accepted : (n : ℕ) → access_of n bs ≡ Ok line_access
   line_accepted n =
-      let low : h.first ≤ 4294967295 = omega (arith, h.some, h.last) in
+      let f = h.fields in
       let reach : h.first + h.sectors - 1 ≤ 4294967295 = omega (arith, h.last) in
-      let numbers : Numbers line_fields h.first h.sectors = record {
-        unit = record { n = h.unit; is = h.asu_is; most = h.asu_most };
-        first_is = h.lba_is;
-        first_most = low;
-        bytes = h.sectors * 512;
-        bytes_are = h.size_is;
-        whole = record { is = refl; some = h.some; few = h.few };
-      } in
       let last = le-leb (h.first + h.sectors - 1) 4294967295 reach in
-      let fields : access_in n h.asu h.lba h.size h.opcode h.stamp ≡ Ok line_access =
-      numbers_access numbers n ∙ rw ((opcode_asked h.opcode_is).1, stamp_stamped h.stamp_is, last) in
-      fields_access line_fields n ∙ ap (map_err line_fault.Field) fields
+      let fields : access_in n f.asu f.lba f.size f.opcode f.stamp ≡ Ok line_access =
+      numbers_access h.numbers n ∙ rw ((opcode_asked h.opcode_is).1, stamp_stamped h.stamp_is, last) in
+      fields_access f n ∙ ap (map_err line_fault.Field) fields
 
   line_lacks : (mark : ℕ) → mark < 44 → Lacks mark bs
   line_lacks mark l =
       let P : ℕ → Type 0 = λ b. b ≡ mark → ⊥ in
       let none : digit mark ≡ false = grind (arith, nat_tests) in
       let apart : 44 ≡ mark → ⊥ = λ e. omega arith in
-      subst (Lacks mark) (sym h.text_is)
-      (All-append P h.asu _ (number_lacks h.asu_is mark none) (
-        apart,
-        All-append P h.lba _ (number_lacks h.lba_is mark none) (
-          apart,
-          All-append P h.size _ (number_lacks h.size_is mark none) (
-            apart,
-            All-append P h.opcode _ (opcode_lacks mark (omega arith) h.opcode_is) (
-              apart,
-              stamp_lacks mark (omega arith) h.stamp_is,
-            ),
-          ),
-        ),
-      ))
+      let f = h.fields in
+      let m = h.numbers in
+      let stamp = stamp_lacks mark (omega arith) h.stamp_is in
+      let opcode = All-append P f.opcode _ (opcode_lacks mark (omega arith) h.opcode_is) (apart, stamp) in
+      let size = All-append P f.size _ (number_lacks m.bytes_are mark none) (apart, opcode) in
+      let lba = All-append P f.lba _ (number_lacks m.first_is mark none) (apart, size) in
+      subst (Lacks mark) (sym f.line_is) (All-append P f.asu _ (number_lacks m.unit.is mark none) (apart, lba))
 
   line_some : 0 < length bs
-  line_some = rw (h.text_is, length-append) (omega arith)
+  line_some = rw (h.fields.line_is, length-append) (omega arith)
 
   pub line_length : length ts ≡ h.sectors
   line_length = ap length h.touches_are ∙ length-touches line_access

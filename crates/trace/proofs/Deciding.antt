@@ -8,8 +8,8 @@ use Rattle.trace.specs.Splits.{parts}
 use Rattle.trace.specs.Numerals.{numeral}
 use Rattle.trace.specs.Accesses.{up_to, sized, opcode_of, time_stamp}
 use Rattle.trace.specs.Touches.{sectors_from}
-use Rattle.trace.specs.Traces.{Number, OpcodeText, TimeStamp, Line, Trace, none, last, fed, returned, Within}
-use Rattle.trace.specs.Refused.{Begins, to_end, to_feed, to_return, FiveFields, UpTo, Whole, Numbers, Wrong, FirstWrong, Refused, field_count, no_unit, no_sector, no_size, bad_size, bad_opcode, bad_time_stamp, past_last_sector, too_many_touches, here, later, trace_too_long, wrong_line, too_few_places}
+use Rattle.trace.specs.Traces.{FiveFields, UpTo, Whole, Numbers, Number, OpcodeText, TimeStamp, Line, Trace, none, last, fed, returned, Within}
+use Rattle.trace.specs.Refused.{Begins, to_end, to_feed, to_return, Wrong, FirstWrong, Refused, field_count, no_unit, no_sector, no_size, bad_size, bad_opcode, bad_time_stamp, past_last_sector, too_many_touches, here, later, trace_too_long, wrong_line, too_few_places}
 use Rattle.trace.proofs.Accepted.{ok_same}
 use Rattle.trace.proofs.Beginnings.{begun}
 use Rattle.trace.proofs.Fives.{fields_cut, fields_parts}
@@ -69,21 +69,10 @@ module _ (n t : ℕ) (line : List ℕ) (f : FiveFields line) where
         | inr h ↦ inl (record { f = _; r = _; is = past_last_sector f m o s h })
         | inl h ↦
             let good : Line line (sectors_from m.unit.n first sectors) = record {
-              asu = f.asu;
-              lba = f.lba;
-              size = f.size;
-              opcode = f.opcode;
-              stamp = f.stamp;
-              text_is = f.line_is;
-              unit = m.unit.n;
+              fields = f;
               first = first;
               sectors = sectors;
-              asu_is = m.unit.is;
-              asu_most = m.unit.most;
-              lba_is = m.first_is;
-              size_is = subst (Number 10 f.size) m.whole.is m.bytes_are;
-              some = m.whole.some;
-              few = m.whole.few;
+              numbers = m;
               opcode_is = o;
               stamp_is = s;
               last = h;

@@ -2,13 +2,13 @@
 use Rattle.std.proofs.Common.{◌≡◌, ◌≢◌, ℕ, cond, eqb, List, [], ◌∷◌, length, get_or, Err, Result, sym, ap, ◌∙◌, subst, refl, inl, inr, arith}
 use Rattle.std.specs.List.{AllByRecursion}
 use Rattle.std.proofs.lemmas.Bool.{cases_Bool, eqb-false}
+use Rattle.trace.specs.Traces.{FiveFields}
 use Rattle.trace.specs.declared.access.Access.{Access}
 use Rattle.trace.specs.declared.fault.LineFault.{LineFault}
 use Rattle.trace.specs.declared.fault.LineFault.TheVariants as line_fault
 use Rattle.trace.specs.Splits.{led, parts, Lacks}
 use Rattle.trace.specs.Accesses.{access_in, access_of}
 use Rattle.base.specs.Results.{map_err}
-use Rattle.trace.specs.Refused.{FiveFields}
 use Rattle.trace.proofs.Splitting.{parts_none, parts_cut, rejoined, rejoined_parts}
 
 led_lacks : (mark b : ℕ) → b ≢ mark → (ps : List (List ℕ)) → AllByRecursion (Lacks mark) ps → AllByRecursion (Lacks mark) (led b ps)

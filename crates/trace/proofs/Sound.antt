@@ -7,8 +7,7 @@ use Rattle.trace.specs.declared.access.Opcode.{Opcode}
 use Rattle.trace.specs.Splits.{parts}
 use Rattle.trace.specs.Numerals.{digit, all_digits, value, numeral}
 use Rattle.trace.specs.Accesses.{up_to, sized, opcode_of, stamp_parts, time_stamp}
-use Rattle.trace.specs.Traces.{Number, OpcodeText, upper_r, lower_r, upper_w, lower_w, TimeStamp, whole, fraction}
-use Rattle.trace.specs.Refused.{UpTo, Whole}
+use Rattle.trace.specs.Traces.{UpTo, Whole, Number, OpcodeText, upper_r, lower_r, upper_w, lower_w, TimeStamp, whole, fraction}
 use Rattle.trace.proofs.Splitting.{rejoined, rejoined_parts}
 
 some_of : {T : Type 0} (o : Option T) → is_some o ≡ true → (x : T) × (o ≡ Some x)

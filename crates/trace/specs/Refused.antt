@@ -1,7 +1,6 @@
 -- Why a text is refused: its first fault, in the order in which a text is judged. Assumes nothing.
-use Rattle.std.specs.Prelude.{◌≡◌, ℕ, ◌+◌, ◌*◌, ◌^◌, ◌<◌, ◌≤◌, List, [], ◌∷◌, ◌++◌, length, Err, Result, ◌≢◌}
-use Rattle.std.specs.List.{AllByRecursion}
-use Rattle.base.specs.declared.limits.TheConstants.{MAX_TEXT_BYTES, MAX_TOUCHES, SECTOR_BYTES}
+use Rattle.std.specs.Prelude.{◌≡◌, ℕ, ◌+◌, ◌^◌, ◌<◌, ◌≤◌, List, [], ◌∷◌, ◌++◌, length, Err, Result, ◌≢◌}
+use Rattle.base.specs.declared.limits.TheConstants.{MAX_TEXT_BYTES, MAX_TOUCHES}
 use Rattle.base.specs.declared.refusal.Refusal.{Refusal}
 use Rattle.base.specs.declared.refusal.Refusal.TheVariants as refusal
 use Rattle.trace.specs.declared.fault.Field.{Field}
@@ -11,10 +10,10 @@ use Rattle.trace.specs.declared.fault.LineFault.TheVariants as line_fault
 use Rattle.trace.specs.declared.fault.ReplayFault.{ReplayFault}
 use Rattle.trace.specs.declared.fault.ReplayFault.TheVariants as replay_fault
 use Rattle.trace.specs.declared.fault.Report.{Report}
-use Rattle.trace.specs.declared.fields.TheConstants.{LAST_UNIT, LAST_SECTOR, MAX_SECTORS}
-use Rattle.trace.specs.Splits.{comma, line_feed, carriage_return, Lacks}
+use Rattle.trace.specs.declared.fields.TheConstants.{LAST_UNIT, LAST_SECTOR}
+use Rattle.trace.specs.Splits.{line_feed, carriage_return, Lacks}
 use Rattle.trace.specs.Faults.{reported}
-use Rattle.trace.specs.Traces.{Number, OpcodeText, TimeStamp, Line, Trace}
+use Rattle.trace.specs.Traces.{FiveFields, UpTo, Whole, Numbers, Number, OpcodeText, TimeStamp, Line, Trace}
 
 -- a text begins with a line, and the rest stands behind its ending: the line goes to the first line feed, or to the end of the text,
 -- and a carriage return right before that line feed is no part of it
@@ -23,37 +22,6 @@ pub data Begins (line : List ℕ) : List ℕ → List ℕ → Type 0 where
   to_feed : {rest : List ℕ} → Lacks line_feed line → ((bs : List ℕ) → line ≢ bs ++ (carriage_return ∷ [])) →
       Begins line (line ++ (line_feed ∷ rest)) rest
   to_return : {rest : List ℕ} → Lacks line_feed line → Begins line (line ++ (carriage_return ∷ (line_feed ∷ rest))) rest
-
--- five fields, with commas between them and none in them
-pub record FiveFields (line : List ℕ) : Type 0 where
-  pub asu : List ℕ
-  pub lba : List ℕ
-  pub size : List ℕ
-  pub opcode : List ℕ
-  pub stamp : List ℕ
-  pub line_is : line ≡ asu ++ (comma ∷ (lba ++ (comma ∷ (size ++ (comma ∷ (opcode ++ (comma ∷ stamp)))))))
-  pub apart : AllByRecursion (Lacks comma) (asu ∷ (lba ∷ (size ∷ (opcode ∷ (stamp ∷ [])))))
-
--- the bytes are a number, and it is not above the greatest
-pub record UpTo (greatest : ℕ) (bs : List ℕ) : Type 0 where
-  pub n : ℕ
-  pub is : Number 10 bs n
-  pub most : n ≤ greatest
-
--- so many bytes are whole sectors, at least one and at most the sectors of the largest access
-pub record Whole (bytes sectors : ℕ) : Type 0 where
-  pub is : bytes ≡ sectors * SECTOR_BYTES
-  pub some : 1 ≤ sectors
-  pub few : sectors ≤ MAX_SECTORS
-
--- the first three fields are good: a unit, a first sector, and the size of so many sectors
-pub record Numbers {line : List ℕ} (f : FiveFields line) (first sectors : ℕ) : Type 0 where
-  pub unit : UpTo LAST_UNIT f.asu
-  pub first_is : Number 10 f.lba first
-  pub first_most : first ≤ LAST_SECTOR
-  pub bytes : ℕ
-  pub bytes_are : Number 10 f.size bytes
-  pub whole : Whole bytes sectors
 
 -- the fault of a field of line n
 abbrev pub field_fault : ℕ → Field → Refusal → LineFault
