@@ -1,14 +1,9 @@
 -- The rows of a sheet, and the texts that it is made of.
-use Rattle.std.proofs.Common.{◌≡◌, ℕ, zero, suc, ◌+◌, ◌<◌, ◌≤◌, leb, List, [], ◌++◌, length, get_or, drop, true, is_ok, Ok, Err, Result}
-use Rattle.std.proofs.Common.{sym, refl, ap, ◌∙◌, inl, inr, arith}
+use Rattle.std.proofs.Common.{◌≡◌, ℕ, zero, suc, ◌+◌, ◌<◌, ◌≤◌, List, [], ◌++◌, length, get_or, drop, true, is_ok, Ok, Err, Result}
+use Rattle.std.proofs.Common.{sym, refl, ap, ◌∙◌, arith}
 use Rattle.std.proofs.lemmas.List.{drop_at}
-use Rattle.std.proofs.lemmas.Bool.{cases_Bool, leb-true, le-leb}
-use Rattle.trace.specs.declared.fault.LineFault.{LineFault}
 use Rattle.trace.specs.declared.fault.ReplayFault.{ReplayFault}
-use Rattle.trace.specs.declared.fault.ReplayFault.TheVariants as replay_fault
-use Rattle.base.specs.Results.{and_then, map_err}
-use Rattle.trace.specs.Splits.{lines}
-use Rattle.trace.specs.Touches.{judged, judged_lines, placed, counted}
+use Rattle.trace.specs.Touches.{counted}
 use Rattle.base.specs.Geometries.{built}
 use Rattle.base.specs.declared.geometry.Geometry.{Geometry}
 use Rattle.base.specs.declared.refusal.Refusal.{Refusal}
@@ -72,24 +67,6 @@ served_more touches i h old before after e b a =
     let next : i + 1 ≡ suc i = omega arith in
     let behind = ap (drop (length touches)) b ∙ behind_rows touches i old in
     rw next (a ∙ ap (λ n. served n touches before) e ∙ ap (λ w. min_serves (get_or frame_counts i 0) [] touches ++ w) behind)
-
--- touches that fit so many places fit more
-placed_more : (p q : ℕ) (j : Result (List ℕ) LineFault) (ts : List ℕ) → p ≤ q → and_then (map_err replay_fault.Line j) (placed p) ≡ Ok ts →
-    (and_then (map_err replay_fault.Line j) (placed q) ≡ Ok ts) × (length ts ≤ p)
-placed_more p q (Err f) ts l e = absurd (never _ _ e)
-placed_more p q (Ok us) ts l e = elim (cases_Bool (leb (length us) p)) [
-  | inl a ↦
-      let s : us ≡ ts = same_ok _ _ (rw a at e) in
-      let fits = leb-true (length us) p a in
-      (rw (le-leb (length us) q (omega arith)) (ap Ok s), rw (sym s) fits)
-  | inr a ↦ absurd (never _ _ (rw a at e))
-]
-
-pub judged_more : (text : List ℕ) (p q : ℕ) (ts : List ℕ) → p ≤ q → judged text p ≡ Ok ts → (judged text q ≡ Ok ts) × (length ts ≤ p)
-judged_more text p q ts l e = elim (cases_Bool (leb (length text) 32768)) [
-  | inl a ↦ rw a (placed_more p q (judged_lines 1 0 (lines text)) ts l (rw a at e))
-  | inr a ↦ absurd (never _ _ (rw a at e))
-]
 
 -- a count is that of some touches
 pub counted_some : (r : Result (List ℕ) ReplayFault) (n : ℕ) → Ok n ≡ counted r → (ts : List ℕ) × (r ≡ Ok ts) × (n ≡ length ts)

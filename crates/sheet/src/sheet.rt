@@ -8,7 +8,7 @@ ghost use Rattle.sheet.specs.Rows.{row_of, frame_counts, Roomy, lent, touches_fo
 use crate::row::{Row, row_of_keys};
 use base::{Geometry, MAX_FRAMES, Refusal, VolumeKey};
 use planning::Lists;
-use trace::{ReplayFault, judge_trace, read_trace};
+use trace::{ReplayFault, judge_trace};
 
 pub const FRAME_COUNTS: [u8; 6] = [1, 2, 3, 4, 8, 64];
 
@@ -46,10 +46,10 @@ pub fn sheet_of_trace(
     ensures same { SameLists lists.old lists.new }
     ensures refused { is_ok result ≡ false → Unchanged lists.old lists.new }
 {
-    judge_trace(text, keys.len().min(lists.places().room()))?;
+    let trace = judge_trace(text, keys.len().min(lists.places().room()))?;
     if lists.held.len() < MAX_FRAMES {
         return Err(ReplayFault::Refused(Refusal::TooFewPlaces));
     }
-    let touches = read_trace(text, keys)?;
+    let touches = trace.read_into(keys)?;
     Ok(rows_of_keys(&keys[0..touches], lists))
 }

@@ -5,7 +5,7 @@ use Rattle.std.proofs.lemmas.Bool.{le-leb}
 use Rattle.base.specs.Keys.{volume_code}
 use Rattle.base.specs.declared.key.volume.VolumeKey.{VolumeKey}
 use Rattle.trace.specs.declared.fault.ReplayFault.{ReplayFault}
-use Rattle.trace.specs.Touches.{judged, counted, Written}
+use Rattle.trace.specs.Touches.{placed, judged, counted, Written}
 use Rattle.trace.specs.Traces.{Trace, Within, Reads}
 use Rattle.trace.specs.Refused.{Refused, Refuses}
 use Rattle.trace.specs.Faults.{reported}
@@ -31,13 +31,17 @@ written_first : {E : Type 0} (r : Result (List ℕ) E) (ts : List ℕ) (before a
 written_first (Ok us) ts before after e w = subst (λ vs. map volume_code (take (length vs) after) ≡ vs) (ok_same e) w.first
 written_first (Err f) ts before after e w = never e
 
-judged_sound : (text : List ℕ) (places : ℕ) (ts : List ℕ) → judged text places ≡ Ok ts → Within text (length ts) places × Trace text ts
+pub judged_sound : (text : List ℕ) (places : ℕ) (ts : List ℕ) → judged text places ≡ Ok ts → Within text (length ts) places × Trace text ts
 judged_sound text places ts h = elim (decided text places) [
   | inl w ↦ never (sym (refused_judged w.is).0 ∙ h)
   | inr g ↦
       let same = ok_same (sym (judged_complete text places g.ts g.trace g.within) ∙ h) in
       subst (λ us. Within text (length us) places × Trace text us) same (g.within, g.trace)
 ]
+
+-- accepted touches have places in a longer list too
+pub judged_placed : (text : List ℕ) (p q : ℕ) (ts : List ℕ) → p ≤ q → judged text p ≡ Ok ts → placed q ts ≡ Ok ts
+judged_placed text p q ts l h = let room = (judged_sound text p ts h).0.room in rw (le-leb (length ts) q (omega arith))
 
 pub reads_all : (text : List ℕ) (answer : Result ℕ ReplayFault) (before after : List VolumeKey) → answer ≡ counted (judged text (length before)) → Written (judged text (length before)) before after → Reads text answer before after
 reads_all text answer before after is written = record {
@@ -50,6 +54,14 @@ reads_all text answer before after is written = record {
       let e = judged_complete text (length before) ts h w in
       (is ∙ ap counted e, written_first (judged text (length before)) ts before after e written);
 }
+
+pub reads_judged : (text : List ℕ) (answer : Result ℕ ReplayFault) (before after : List VolumeKey) (ts : List ℕ) →
+    Ok ts ≡ judged text (length before) → answer ≡ counted (placed (length before) ts) → Written (placed (length before) ts) before after →
+    Reads text answer before after
+reads_judged text answer before after ts is counts written =
+    let n = length before in
+    let same = judged_placed text n n ts (omega arith) (sym is) ∙ is in
+    reads_all text answer before after (counts ∙ ap counted same) (subst (λ r. Written r before after) same written)
 
 pub reads_refused : (text : List ℕ) (answer : Result ℕ ReplayFault) (keys : List VolumeKey) → answer ≡ counted (judged text (length keys)) → IsErr answer → Reads text answer keys keys
 reads_refused text (Ok n) keys is e = absurd cc

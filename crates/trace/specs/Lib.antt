@@ -3,6 +3,7 @@ pub mod Splits
 pub mod Numerals
 pub mod Accesses
 pub mod Touches
+pub mod Judged
 pub mod Reading
 pub mod Traces
 pub mod Refused

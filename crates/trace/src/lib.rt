@@ -4,10 +4,11 @@
 mod access;
 mod fault;
 mod fields;
+mod judged;
 mod line;
 mod reader;
 mod splits;
 mod touches;
 
 pub use fault::{Field, FieldFault, LineFault, Plain, ReplayFault, Report};
-pub use touches::{judge_trace, read_trace};
+pub use judged::{JudgedTrace, judge_trace, read_trace};

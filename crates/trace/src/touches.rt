@@ -1,47 +1,16 @@
-// A whole trace: its lines are judged first, and only then are keys written.
+// The touches of a whole trace: they are counted as its lines are judged, and their keys written where the lines are accepted.
 ghost use Rattle.std.specs.Prelude.{◌≡◌, ◌+◌, ◌^◌, ◌≤◌, true, map, length, is_ok};
 ghost use Rattle.base.specs.Keys.{volume_code};
 ghost use Rattle.trace.specs.Splits.{lines};
-ghost use Rattle.trace.specs.Touches.{line_touches, judged_lines, judged, counted, touches_in, Filled, Written};
-ghost use Rattle.trace.specs.Traces.{Reads};
-ghost use Rattle.trace.specs.Refused.{Refuses};
+ghost use Rattle.trace.specs.Touches.{line_touches, judged_lines, counted, touches_in, Filled};
 
 use crate::access::Access;
-use crate::fault::{LineFault, ReplayFault};
+use crate::fault::LineFault;
 use crate::reader::TraceReader;
-use base::{MAX_TEXT_BYTES, MAX_TOUCHES, Refusal, VolumeKey};
-
-// Reads a trace into keys, one for each touch, and answers how many.
-#[tactic(auto, using(crate::proofs::Exact::reads_all, crate::proofs::Exact::reads_refused, crate::proofs::Exact::refuses_first))]
-pub fn read_trace(text: &[u8], keys: &mut [VolumeKey]) -> Result<usize, ReplayFault>
-    ensures answer { result ≡ counted (judged text.now (length keys.old)) }
-    ensures keys { Written (judged text.now (length keys.old)) keys.old keys.new }
-    ensures trace { Reads text.now result keys.old keys.new }
-    ensures refused { Refuses text.now (length keys.old) result }
-{
-    let count = judge_trace(text, keys.len())?;
-    write_keys(text, keys);
-    Ok(count)
-}
-
-// How many touches a text has, judged for a list of so many places: what a caller asks that lends more lists than the keys.
-#[tactic(auto, using(crate::proofs::Exact::refuses_first))]
-pub fn judge_trace(text: &[u8], places: usize) -> Result<usize, ReplayFault>
-    ensures answer { result ≡ counted (judged text.now places) }
-    ensures refused { Refuses text.now places result }
-{
-    if text.len() > MAX_TEXT_BYTES {
-        return Err(ReplayFault::Refused(Refusal::TraceTooLong));
-    }
-    let count = count_touches(text)?;
-    if count > places {
-        return Err(ReplayFault::Refused(Refusal::TooFewPlaces));
-    }
-    Ok(count)
-}
+use base::{MAX_TEXT_BYTES, MAX_TOUCHES, VolumeKey};
 
 // Judges every line, and answers how many touches they have.
-fn count_touches(text: &[u8]) -> Result<usize, LineFault>
+pub fn count_touches(text: &[u8]) -> Result<usize, LineFault>
     requires { length text.now ≤ MAX_TEXT_BYTES }
     ensures { result ≡ counted (judged_lines 1 0 (lines text.now)) }
 {
@@ -57,7 +26,7 @@ fn count_touches(text: &[u8]) -> Result<usize, LineFault>
 }
 
 // Writes the keys of a text whose lines are accepted, and which has no more touches than there are places.
-fn write_keys(text: &[u8], keys: &mut [VolumeKey])
+pub fn write_keys(text: &[u8], keys: &mut [VolumeKey])
     requires short { length text.now ≤ MAX_TEXT_BYTES }
     requires accepted { is_ok (judged_lines 1 0 (lines text.now)) ≡ true }
     requires places { length (touches_in text.now) ≤ length keys.old }
