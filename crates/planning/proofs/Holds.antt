@@ -1,6 +1,6 @@
 -- Which frame holds a key, once a frame holds another.
 use Rattle.std.proofs.Common.{◌≡◌, ℕ, zero, suc, ◌<◌, ◌≤◌, true, false, cond, eqb, ltb, List, [], ◌∷◌, ◌++◌, map}
-use Rattle.std.proofs.Common.{length, get_or, take, set, is_some, Some, None, Ok, Result, sym, refl, ap, ◌∙◌, inl, inr, arith}
+use Rattle.std.proofs.Common.{length, get_or, take, set, is_some, Option, Some, None, Ok, Result, sym, refl, ap, ◌∙◌, inl, inr, arith}
 use Rattle.base.specs.declared.refusal.Refusal.{Refusal}
 use Rattle.std.proofs.lemmas.Bool.Decides.{nat_tests}
 use Rattle.std.proofs.lemmas.Bool.{cases_Bool, cases_eq, cases_lt, lt-ltb, le-ltb, ne_eqb, or_right}
@@ -9,7 +9,9 @@ use Rattle.std.proofs.lemmas.List.{length-set, get_or_push, get_or_append_left, 
 use Rattle.base.specs.Lists.{member, found_in, Apart}
 use Rattle.policy.specs.Machine.{put}
 use Rattle.policy.specs.Members.{member_index}
+use Rattle.index.specs.Slots.{map_of}
 use Rattle.index.specs.Maps.{Map, with_number, after_remove, has, accepts, put_answer, after_put}
+use Rattle.planning.specs.declared.held.HeldKeys.{HeldKeys}
 use Rattle.planning.specs.Frames.{keys_at, Shows, Room, without_frame}
 use Rattle.planning.proofs.Judged.{code_at}
 
@@ -123,6 +125,12 @@ holds_by_calls code keys hs index out after ks f filled place key a eo ea er ek 
           ea ∙ ap (λ m. after_put m (code key) f) eo ∙ ap (λ y. after_put (without_frame xs hs index f filled) y f) ex in
           rw e h.1,
     )
+
+-- the frame that is found for an element of the list is found for the code at its place
+pub frame_at : {K : Type 0} (code : K → ℕ) (frames : HeldKeys K) (keys : List K) (i : ℕ) (key : K) (found : Option ℕ) →
+    i < length keys → key ≡ get_or keys i key → found ≡ (map_of code frames.index).at (code key) →
+    (map_of code frames.index).at (get_or (map code keys) i 0) ≡ found
+frame_at code frames keys i key found l is e = ap (map_of code frames.index).at (sym (code_at code keys i key l is)) ∙ sym e
 
 -- a put and a removal leave the number of slots
 pub places_put : (index : Map) (x f : ℕ) → (after_put index x f).places ≡ index.places

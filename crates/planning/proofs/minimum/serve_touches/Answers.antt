@@ -1,10 +1,9 @@
-use Rattle.std.proofs.Common.{◌≡◌, ℕ, ◌+◌, ◌≤◌, List, [], ◌++◌, map, length, get_or, drop, set, sym, refl, ap, ◌∙◌, arith}
+use Rattle.std.proofs.Common.{◌≡◌, ℕ, ◌+◌, ◌≤◌, List, [], ◌++◌, map, length, drop, set, sym, refl, ap, ◌∙◌, arith}
 use Rattle.std.proofs.lemmas.List.{length-map, length-set}
-use Rattle.index.specs.Slots.{map_of, number_of, slots_of, SoundIndex}
+use Rattle.index.specs.Slots.{map_of, slots_of, SoundIndex}
 use Rattle.planning.specs.Minimum.{min_serves}
 use Rattle.planning.specs.declared.held.HeldKeys.{HeldKeys}
-use Rattle.planning.proofs.Holds.{room_shown, shows_shown}
-use Rattle.planning.proofs.Judged.{code_at}
+use Rattle.planning.proofs.Holds.{frame_at, room_shown, shows_shown}
 use Rattle.planning.proofs.Along.{Serving-along, Turn, serving_none, serving_low}
 use Rattle.planning.proofs.Along.{serving_hit, serving_room, serving_fetch, serving_all, chosen_low}
 use Rattle.planning.proofs.minimum.serve_touches.Given as given
@@ -35,15 +34,6 @@ turn g c = record {
   wide = omega (arith, c.requires.size, c.loop-place.invariant.1.1);
 }
 
--- the index is asked for the key of the touch
-asked : (g : given.Over) (c : After-frame_of g) →
-    number_of g.K.Key.code (slots_of c.loop-place.frames.index) (get_or (map g.K.Key.code c.args.keys.now) c.loop-place.place 0) ≡
-    number_of g.K.Key.code (slots_of c.loop-place.frames.index) (g.K.Key.code c.index-keys-place.result)
-asked g c =
-    let key = c.index-keys-place in
-    let same = code_at g.K.Key.code c.args.keys.now c.loop-place.place key.result c.loop-place-test.true key.is in
-    ap (number_of g.K.Key.code (slots_of c.loop-place.frames.index)) (sym same)
-
 pub loop-place-init : goal.loop-place-init
 loop-place-init g c =
     (c.requires.empty.sound, (rw c.requires.empty.none (serving_none _ _ _ _ _ _ _ c.requires.empty.map), refl))
@@ -53,7 +43,9 @@ pub touch-requires : goal.touch-requires
 touch-requires g c =
     let here = (goal.at.touch-requires g c).After-frame_of in
     let t = turn g here in
-    let below = serving_low t _ (asked g here ∙ sym c.in-Some.ensures) in
+    let found = frame_at g.K.Key.code c.loop-place.frames c.args.keys.now _ _ _ c.loop-place-test.true
+    c.index-keys-place.is c.in-Some.ensures in
+    let below = serving_low t _ found in
     (omega (arith, below, t.wide), omega (arith, c.loop-place-test.true, c.requires.few))
 
 pub choose-frame-requires : goal.choose-frame-requires
@@ -73,7 +65,9 @@ hold-requires g c =
     let low = c.loop-place-test.true in
     let picked = rw c.loop-place.invariant.1.1 at c.choose-frame.ensures in
     let below = chosen_low t _ picked in
-    let room = serving_room t _ (asked g here ∙ sym c.in-None.ensures) picked in
+    let found = frame_at g.K.Key.code c.loop-place.frames c.args.keys.now _ _ _ c.loop-place-test.true
+    c.index-keys-place.is c.in-None.ensures in
+    let room = serving_room t _ found picked in
     record {
       sound = c.loop-place.invariant.0;
       within = (omega (arith, below.0, t.wide), (omega (arith, below.0, c.requires.size), (low, omega (arith, c.requires.few))));
@@ -86,7 +80,9 @@ overflow_cast-serving g c =
     let t = turn g here in
     elim c.match-frame_of.branch [
       | in-Some w ↦
-          let below = serving_low t _ (asked g here ∙ sym w.in-Some.ensures) in
+          let found = frame_at g.K.Key.code c.loop-place.frames c.args.keys.now _ _ _ c.loop-place-test.true
+          c.index-keys-place.is w.in-Some.ensures in
+          let below = serving_low t _ found in
           omega (arith, w.frame-is, below, c.requires.size)
       | in-None w ↦
           let below = chosen_low t _ (rw c.loop-place.invariant.1.1 at w.choose-frame.ensures) in
@@ -101,12 +97,15 @@ loop-place-preserved g c =
     elim c.match-frame_of.branch [
       | in-Some w ↦
           let h = w.touch.ensures in
-          let served = serving_hit t _ (asked g here ∙ sym w.in-Some.ensures) in
+          let found = frame_at g.K.Key.code c.loop-place.frames c.args.keys.now _ _ _ c.loop-place-test.true
+          c.index-keys-place.is w.in-Some.ensures in
+          let served = serving_hit t _ found in
           joined g.K.Key.code g.K.Key.spread _ _ _ _ _ _ _ _ w.frames-is w.fetches-is w.frame-is
           (rw h.index c.loop-place.invariant.0) (rw (h.index, h.held, h.filled) served) (ap length h.held ∙ length-set _ _ _ ∙ wide)
       | in-None w ↦
           let h = w.hold.ensures in
-          let found = asked g here ∙ sym w.in-None.ensures in
+          let found = frame_at g.K.Key.code c.loop-place.frames c.args.keys.now _ _ _ c.loop-place-test.true
+          c.index-keys-place.is w.in-None.ensures in
           let picked = rw wide at w.choose-frame.ensures in
           let room = serving_room t _ found picked in
           let shows = shows_shown _ _ _ _ _ _ _ room (omega (arith, t.state.along.few, t.wide)) _ _ _ h.holds in

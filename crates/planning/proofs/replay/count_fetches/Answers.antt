@@ -1,11 +1,10 @@
-use Rattle.std.proofs.Common.{◌≡◌, ℕ, List, map, length, get_or, sym, refl, ap, ◌∙◌, arith}
+use Rattle.std.proofs.Common.{◌≡◌, ℕ, List, map, length, refl, ap, ◌∙◌, arith}
 use Rattle.std.proofs.lemmas.List.{length-map, length-set}
-use Rattle.index.specs.Slots.{map_of, number_of, slots_of, SoundIndex}
+use Rattle.index.specs.Slots.{map_of, slots_of, SoundIndex}
 use Rattle.policy.specs.Machine.{Rules, Machine}
 use Rattle.planning.specs.Replay.{idle}
 use Rattle.planning.specs.declared.held.HeldKeys.{HeldKeys}
-use Rattle.planning.proofs.Holds.{room_shown, shows_shown}
-use Rattle.planning.proofs.Judged.{code_at}
+use Rattle.planning.proofs.Holds.{frame_at, room_shown, shows_shown}
 use Rattle.planning.proofs.Replays.{Replaying, Turn, replaying_none, replaying_all, replaying_hit}
 use Rattle.planning.proofs.Replays.{replaying_fetch, hit_accepted, fetch_room, fetch_below, count_most, held_most}
 use Rattle.planning.proofs.replay.count_fetches.Given as given
@@ -36,15 +35,6 @@ turn g c = record {
   slots = rw (length-map, c.requires.places.1) c.requires.slots;
 }
 
--- the index is asked for the key of the touch
-asked : (g : given.Over) (c : After-frame_of g) →
-    number_of g.K.Key.code (slots_of c.loop-place.frames.index) (get_or (map g.K.Key.code c.args.keys.now) c.loop-place.place 0) ≡
-    number_of g.K.Key.code (slots_of c.loop-place.frames.index) (g.K.Key.code c.index-keys-place.result)
-asked g c =
-    let key = c.index-keys-place in
-    let same = code_at g.K.Key.code c.args.keys.now c.loop-place.place key.result c.loop-place-test.true key.is in
-    ap (number_of g.K.Key.code (slots_of c.loop-place.frames.index)) (sym same)
-
 pub loop-place-init : goal.loop-place-init
 loop-place-init g c =
     let started = replaying_none g.P.Policy.rules (idle (g.P.Policy.model c.args.policy.now)) (map g.K.Key.code c.args.keys.now)
@@ -54,7 +44,9 @@ loop-place-init g c =
 pub unwrap-requires : goal.unwrap-requires
 unwrap-requires g c =
     let here = (goal.at.unwrap-requires g c).After-frame_of in
-    rw (c.use_frame.ensures.value ∙ hit_accepted (turn g here) _ (asked g here ∙ sym c.in-Some.ensures))
+    let found = frame_at g.K.Key.code c.loop-place.frames c.args.keys.now _ _ _ c.loop-place-test.true
+    c.index-keys-place.is c.in-Some.ensures in
+    rw (c.use_frame.ensures.value ∙ hit_accepted (turn g here) _ found)
 
 pub hold-requires : goal.hold-requires
 hold-requires g c =
@@ -62,7 +54,9 @@ hold-requires g c =
     let t = turn g here in
     let placed = c.place-frame.ensures.value in
     let below = fetch_below t _ placed in
-    let room = fetch_room t _ (asked g here ∙ sym c.in-None.ensures) placed in
+    let found = frame_at g.K.Key.code c.loop-place.frames c.args.keys.now _ _ _ c.loop-place-test.true
+    c.index-keys-place.is c.in-None.ensures in
+    let room = fetch_room t _ found placed in
     let wide = c.loop-place.invariant.1.1 in
     record {
       sound = c.loop-place.invariant.0;
@@ -85,13 +79,16 @@ loop-place-preserved g c =
     let wide = c.loop-place.invariant.1.1 in
     elim c.match-frame_of.branch [
       | in-Some w ↦
-          let hit = replaying_hit t _ _ (asked g here ∙ sym w.in-Some.ensures) w.use_frame.ensures.after in
+          let found = frame_at g.K.Key.code c.loop-place.frames c.args.keys.now _ _ _ c.loop-place-test.true
+          c.index-keys-place.is w.in-Some.ensures in
+          let hit = replaying_hit t _ _ found w.use_frame.ensures.after in
           joined g.K.Key.code g.K.Key.spread g.P.Policy.rules _ xs _ _ _ g.P.Policy.model w.policy-is w.frames-is w.fetches-is
           c.loop-place.invariant.0 hit wide
       | in-None w ↦
           let h = w.hold.ensures in
           let placed = w.place-frame.ensures in
-          let found = asked g here ∙ sym w.in-None.ensures in
+          let found = frame_at g.K.Key.code c.loop-place.frames c.args.keys.now _ _ _ c.loop-place-test.true
+          c.index-keys-place.is w.in-None.ensures in
           let room = fetch_room t _ found placed.value in
           let shows = shows_shown _ _ _ _ _ _ _ room (omega (arith, held_most t, c.requires.places, wide)) _ _ _ h.holds in
           let fetched = replaying_fetch t _ _ _ _ found placed.value placed.after shows h.places in
