@@ -20,7 +20,9 @@ pub record Bounded (g : Geometry) : Type 0 where
 -- how the numbers are judged: the frames first
 abbrev pub judged_numbers : ℕ → ℕ → Result (ℕ × ℕ) Refusal
 judged_numbers frames pins =
-    cond (nat_le 1 frames && nat_le frames MAX_FRAMES) (cond (nat_le pins MAX_PINS) (Ok (frames, pins)) (Err PinPlaceCount)) (Err FrameCount)
+    cond (nat_le 1 frames && nat_le frames MAX_FRAMES)
+    (cond (nat_le pins MAX_PINS) (Ok (frames, pins)) (Err PinPlaceCount))
+    (Err FrameCount)
 
 -- a geometry by its two numbers
 abbrev pub read_off : Result Geometry Refusal → Result (ℕ × ℕ) Refusal

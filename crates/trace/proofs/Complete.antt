@@ -1,5 +1,6 @@
 -- Every trace within the limits is accepted. Assumes nothing.
-use Rattle.std.proofs.Common.{◌≡◌, ℕ, ◌+◌, ◌-◌, ◌/◌, ◌%◌, ◌<◌, ◌≤◌, true, false, ◌&&◌, List, [], ◌∷◌, ◌++◌, length, is_some, Some, Ok, sym, refl, ap, ◌∙◌, subst, append-nil, arith, length-append}
+use Rattle.std.proofs.Common.{◌≡◌, ℕ, ◌+◌, ◌-◌, ◌/◌, ◌%◌, ◌<◌, ◌≤◌, true, false, ◌&&◌, List, [], ◌∷◌, ◌++◌, length, is_some, Some, Ok, sym}
+use Rattle.std.proofs.Common.{refl, ap, ◌∙◌, subst, append-nil, arith, length-append}
 use Rattle.std.specs.List.{AllByRecursion}
 use Rattle.std.proofs.ByRecursion.{All-append}
 use Rattle.std.proofs.lemmas.Bool.{le-leb}
@@ -14,7 +15,8 @@ use Rattle.trace.specs.Accesses.{up_to, sized, sectors_in, opcode_of, opcode_in,
 use Rattle.base.specs.Results.{and_then, map_err}
 use Rattle.trace.specs.Touches.{judged_lines}
 use Rattle.trace.specs.Refused.{to_return}
-use Rattle.trace.specs.Traces.{FiveFields, UpTo, Whole, Numbers, Number, OpcodeText, upper_r, lower_r, upper_w, lower_w, TimeStamp, whole, fraction, Line, Trace, none, last, fed, returned}
+use Rattle.trace.specs.Traces.{FiveFields, UpTo, Whole, Numbers, Number, OpcodeText, upper_r, lower_r, upper_w, lower_w, TimeStamp, whole}
+use Rattle.trace.specs.Traces.{fraction, Line, Trace, none, last, fed, returned}
 use Rattle.trace.proofs.Numerals.{numeral_read}
 use Rattle.trace.proofs.Beginnings.{begins_lines}
 use Rattle.trace.proofs.Fives.{fields_access}
@@ -49,7 +51,8 @@ opcode_asked lower_w = (Write, refl)
 stamp_lacks : {bs : List ℕ} (mark : ℕ) → mark < 46 → TimeStamp bs → Lacks mark bs
 stamp_lacks mark l (whole h) = number_lacks h mark (grind (arith, nat_tests))
 stamp_lacks mark l (fraction {bs} {cs} h k) =
-    All-append (λ b. b ≡ mark → ⊥) bs (46 ∷ cs) (number_lacks h mark (grind (arith, nat_tests))) (λ e. omega arith, number_lacks k mark (grind (arith, nat_tests)))
+    let none : digit mark ≡ false = grind (arith, nat_tests) in
+    All-append (λ b. b ≡ mark → ⊥) bs (46 ∷ cs) (number_lacks h mark none) (λ e. omega arith, number_lacks k mark none)
 
 opcode_lacks : {bs : List ℕ} (mark : ℕ) → mark < 46 → OpcodeText bs → Lacks mark bs
 opcode_lacks mark l upper_r = (λ e. omega arith, tt)
@@ -115,12 +118,14 @@ module _ {bs ts : List ℕ} (h : Line bs ts) where
 
   -- the line is the first of a text, with either ending
   line_fed : (rest : List ℕ) → lines (bs ++ (10 ∷ rest)) ≡ bs ∷ lines rest
-  line_fed rest = lines_fed bs rest (line_lacks 10 (omega arith)) ∙ ap (λ l. l ∷ lines rest) (unreturned_none bs (line_lacks 13 (omega arith)))
+  line_fed rest =
+      lines_fed bs rest (line_lacks 10 (omega arith)) ∙ ap (λ l. l ∷ lines rest) (unreturned_none bs (line_lacks 13 (omega arith)))
 
   line_returned : (rest : List ℕ) → lines (bs ++ (13 ∷ (10 ∷ rest))) ≡ bs ∷ lines rest
   line_returned rest = begins_lines (to_return (line_lacks 10 (omega arith)))
 
-  lines_accepted : (n t : ℕ) (ls : List (List ℕ)) (us : List ℕ) → t + length (ts ++ us) ≤ 4096 → judged_lines (n + 1) (t + length ts) ls ≡ Ok us → judged_lines n t (bs ∷ ls) ≡ Ok (ts ++ us)
+  lines_accepted : (n t : ℕ) (ls : List (List ℕ)) (us : List ℕ) → t + length (ts ++ us) ≤ 4096 →
+      judged_lines (n + 1) (t + length ts) ls ≡ Ok us → judged_lines n t (bs ∷ ls) ≡ Ok (ts ++ us)
   lines_accepted n t ls us few more =
       let k = h.sectors in
       let long = length-append ts us in

@@ -1,5 +1,6 @@
 -- Every text is a trace within the limits, or refused for a fault. Assumes nothing.
-use Rattle.std.proofs.Common.{◌≡◌, ℕ, zero, suc, ◌+◌, ◌^◌, ◌<◌, ◌≤◌, ◌⊎◌, Bool, true, false, leb, eqb, List, [], ◌∷◌, ◌++◌, length, Some, None, Option, sym, refl, ap, subst, append-nil, inl, inr, arith, length-append}
+use Rattle.std.proofs.Common.{◌≡◌, ℕ, zero, suc, ◌+◌, ◌^◌, ◌<◌, ◌≤◌, ◌⊎◌, Bool, true, false, leb, eqb, List, [], ◌∷◌, ◌++◌, length, Some}
+use Rattle.std.proofs.Common.{None, Option, sym, refl, ap, subst, append-nil, inl, inr, arith, length-append}
 use Rattle.std.proofs.lemmas.Bool.{cases_Bool, leb-true, leb-false, eqb-true, eq-eqb, false≢true}
 use Rattle.std.proofs.lemmas.Option.{none-some}
 use Rattle.base.specs.declared.limits.TheConstants.{MAX_TOUCHES}
@@ -8,8 +9,11 @@ use Rattle.trace.specs.Splits.{parts}
 use Rattle.trace.specs.Numerals.{numeral}
 use Rattle.trace.specs.Accesses.{up_to, sized, opcode_of, time_stamp}
 use Rattle.trace.specs.Touches.{sectors_from}
-use Rattle.trace.specs.Traces.{FiveFields, UpTo, Whole, Numbers, Number, OpcodeText, TimeStamp, Line, Trace, none, last, fed, returned, Within}
-use Rattle.trace.specs.Refused.{Begins, to_end, to_feed, to_return, Wrong, FirstWrong, Refused, field_count, no_unit, no_sector, no_size, bad_size, bad_opcode, bad_time_stamp, past_last_sector, too_many_touches, here, later, trace_too_long, wrong_line, too_few_places}
+use Rattle.trace.specs.Traces.{FiveFields, UpTo, Whole, Numbers, Number, OpcodeText, TimeStamp, Line, Trace, none, last, fed, returned}
+use Rattle.trace.specs.Traces.{Within}
+use Rattle.trace.specs.Refused.{Begins, to_end, to_feed, to_return, Wrong, FirstWrong, Refused, field_count, no_unit, no_sector, no_size}
+use Rattle.trace.specs.Refused.{bad_size, bad_opcode, bad_time_stamp, past_last_sector, too_many_touches, here, later, trace_too_long}
+use Rattle.trace.specs.Refused.{wrong_line, too_few_places}
 use Rattle.trace.proofs.Accepted.{ok_same}
 use Rattle.trace.proofs.Beginnings.{begun}
 use Rattle.trace.proofs.Fives.{fields_cut, fields_parts}
@@ -98,7 +102,8 @@ line_decided n t line = elim (five_or_not line) [
         | inl s ↦ elim (whole_or_not s.0) [
           | inr h ↦ inl (record { f = _; r = _; is = bad_size f u v s.0 s.1 (λ k w. h (k, w)) })
           | inl w ↦
-              let m : Numbers f v.n w.0 = record { unit = u; first_is = v.is; first_most = v.most; bytes = s.0; bytes_are = s.1; whole = w.1 } in
+              let m : Numbers f v.n w.0 =
+              record { unit = u; first_is = v.is; first_most = v.most; bytes = s.0; bytes_are = s.1; whole = w.1 } in
               line_behind_numbers n t line f m
         ]
       ]

@@ -27,7 +27,8 @@ judged_complete text places ts h w =
     let few : 0 + length ts ≤ 4096 = omega (arith, w.few) in
     rw (le-leb (length text) 32768 w.short, trace_accepted h 1 0 few, le-leb (length ts) places w.room)
 
-written_first : {E : Type 0} (r : Result (List ℕ) E) (ts : List ℕ) (before after : List VolumeKey) → r ≡ Ok ts → Written r before after → map volume_code (take (length ts) after) ≡ ts
+written_first : {E : Type 0} (r : Result (List ℕ) E) (ts : List ℕ) (before after : List VolumeKey) → r ≡ Ok ts → Written r before after →
+    map volume_code (take (length ts) after) ≡ ts
 written_first (Ok us) ts before after e w = subst (λ vs. map volume_code (take (length vs) after) ≡ vs) (ok_same e) w.first
 written_first (Err f) ts before after e w = never e
 
@@ -43,13 +44,15 @@ judged_sound text places ts h = elim (decided text places) [
 pub judged_placed : (text : List ℕ) (p q : ℕ) (ts : List ℕ) → p ≤ q → judged text p ≡ Ok ts → placed q ts ≡ Ok ts
 judged_placed text p q ts l h = let room = (judged_sound text p ts h).0.room in rw (le-leb (length ts) q (omega arith))
 
-pub reads_all : (text : List ℕ) (answer : Result ℕ ReplayFault) (before after : List VolumeKey) → answer ≡ counted (judged text (length before)) → Written (judged text (length before)) before after → Reads text answer before after
+pub reads_all : (text : List ℕ) (answer : Result ℕ ReplayFault) (before after : List VolumeKey) →
+    answer ≡ counted (judged text (length before)) → Written (judged text (length before)) before after → Reads text answer before after
 reads_all text answer before after is written = record {
   sound = λ n e.
       let p = counted_parts (judged text (length before)) n (sym is ∙ e) in
       let s = judged_sound text (length before) p.0 p.1 in
       let codes = written_first (judged text (length before)) p.0 before after p.1 written in
-      (subst (λ m. Within text m (length before)) p.2 s.0, subst (λ m. Trace text (map volume_code (take m after))) p.2 (subst (Trace text) (sym codes) s.1));
+      let trace = subst (λ m. Trace text (map volume_code (take m after))) p.2 (subst (Trace text) (sym codes) s.1) in
+      (subst (λ m. Within text m (length before)) p.2 s.0, trace);
   complete = λ ts h w.
       let e = judged_complete text (length before) ts h w in
       (is ∙ ap counted e, written_first (judged text (length before)) ts before after e written);
@@ -63,7 +66,8 @@ reads_judged text answer before after ts is counts written =
     let same = judged_placed text n n ts (omega arith) (sym is) ∙ is in
     reads_all text answer before after (counts ∙ ap counted same) (subst (λ r. Written r before after) same written)
 
-pub reads_refused : (text : List ℕ) (answer : Result ℕ ReplayFault) (keys : List VolumeKey) → answer ≡ counted (judged text (length keys)) → IsErr answer → Reads text answer keys keys
+pub reads_refused : (text : List ℕ) (answer : Result ℕ ReplayFault) (keys : List VolumeKey) → answer ≡ counted (judged text (length keys)) →
+    IsErr answer → Reads text answer keys keys
 reads_refused text (Ok n) keys is e = absurd cc
 reads_refused text (Err f) keys is e =
     let refused = counted_err (judged text (length keys)) f (sym is) in

@@ -1,5 +1,6 @@
 -- Lines of five fields. Assumes nothing.
-use Rattle.std.proofs.Common.{◌≡◌, ◌≢◌, ℕ, cond, eqb, List, [], ◌∷◌, length, get_or, Err, Result, sym, ap, ◌∙◌, subst, refl, inl, inr, arith}
+use Rattle.std.proofs.Common.{◌≡◌, ◌≢◌, ℕ, cond, eqb, List, [], ◌∷◌, length, get_or, Err, Result, sym, ap, ◌∙◌, subst, refl, inl, inr}
+use Rattle.std.proofs.Common.{arith}
 use Rattle.std.specs.List.{AllByRecursion}
 use Rattle.std.proofs.lemmas.Bool.{cases_Bool, eqb-false}
 use Rattle.trace.specs.Traces.{FiveFields}
@@ -22,7 +23,8 @@ parts_lack mark (b ∷ bs) = elim (cases_Bool (eqb b mark)) [
   | inr e ↦ rw e (led_lacks mark b (eqb-false b mark e) (parts mark bs) (parts_lack mark bs))
 ]
 
-five : {X : Type 0} (xs : List X) (d : X) → length xs ≡ 5 → xs ≡ get_or xs 0 d ∷ (get_or xs 1 d ∷ (get_or xs 2 d ∷ (get_or xs 3 d ∷ (get_or xs 4 d ∷ []))))
+five : {X : Type 0} (xs : List X) (d : X) → length xs ≡ 5 →
+    xs ≡ get_or xs 0 d ∷ (get_or xs 1 d ∷ (get_or xs 2 d ∷ (get_or xs 3 d ∷ (get_or xs 4 d ∷ []))))
 five [] d e = absurd (omega arith)
 five (a ∷ []) d e = absurd (omega arith)
 five (a ∷ b ∷ []) d e = absurd (omega arith)
@@ -59,5 +61,7 @@ module _ {line : List ℕ} (f : FiveFields line) where
   pub fields_access : (n : ℕ) → access_of n line ≡ map_err line_fault.Field (access_in n f.asu f.lba f.size f.opcode f.stamp)
   fields_access n =
       let F : List (List ℕ) → Result Access LineFault =
-      λ fs. cond (eqb (length fs) 5) (map_err line_fault.Field (access_in n (get_or fs 0 []) (get_or fs 1 []) (get_or fs 2 []) (get_or fs 3 []) (get_or fs 4 []))) (Err (line_fault.FieldCount n)) in
+      λ fs. cond (eqb (length fs) 5)
+      (map_err line_fault.Field (access_in n (get_or fs 0 []) (get_or fs 1 []) (get_or fs 2 []) (get_or fs 3 []) (get_or fs 4 [])))
+      (Err (line_fault.FieldCount n)) in
       ap F fields_parts

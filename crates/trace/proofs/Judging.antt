@@ -15,7 +15,8 @@ abbrev pub added : ℕ → Result (List ℕ) LineFault → Result ℕ LineFault
 added t (Ok ts) = Ok (t + length ts)
 added t (Err e) = Err e
 
-added_front : (t k : ℕ) (xs : List ℕ) (r : Result (List ℕ) LineFault) → length xs ≡ k → added t (and_then r (λ more. Ok (xs ++ more))) ≡ added (t + k) r
+added_front : (t k : ℕ) (xs : List ℕ) (r : Result (List ℕ) LineFault) → length xs ≡ k →
+    added t (and_then r (λ more. Ok (xs ++ more))) ≡ added (t + k) r
 added_front t k xs (Ok ts) e = rw (length-append xs ts, e, add_assoc t k (length ts))
 added_front t k xs (Err f) e = refl
 
@@ -23,11 +24,16 @@ pub length-touches : (a : Access) → length (line_touches a) ≡ a.sectors
 length-touches a = length-upward a.asu a.lba a.sectors
 
 module _ (n t : ℕ) (l : List ℕ) (ls : List (List ℕ)) where
-  pub judged_more : (a : Access) → access_of n l ≡ Ok a → t + a.sectors ≤ 4096 → added t (judged_lines n t (l ∷ ls)) ≡ added (t + a.sectors) (judged_lines (n + 1) (t + a.sectors) ls)
-  judged_more a e h = rw (e, le-leb (t + a.sectors) 4096 h) (added_front t a.sectors (line_touches a) (judged_lines (n + 1) (t + a.sectors) ls) (length-touches a))
+  pub judged_more : (a : Access) → access_of n l ≡ Ok a → t + a.sectors ≤ 4096 →
+      added t (judged_lines n t (l ∷ ls)) ≡ added (t + a.sectors) (judged_lines (n + 1) (t + a.sectors) ls)
+  judged_more a e h =
+      let more = judged_lines (n + 1) (t + a.sectors) ls in
+      rw (e, le-leb (t + a.sectors) 4096 h) (added_front t a.sectors (line_touches a) more (length-touches a))
 
   -- what an accepted first line tells
-  pub judged_parts : (ts : List ℕ) → judged_lines n t (l ∷ ls) ≡ Ok ts → (a : Access) × (access_of n l ≡ Ok a) × (t + a.sectors ≤ 4096) × ((more : List ℕ) × (judged_lines (n + 1) (t + a.sectors) ls ≡ Ok more) × (line_touches a ++ more ≡ ts))
+  pub judged_parts : (ts : List ℕ) → judged_lines n t (l ∷ ls) ≡ Ok ts →
+      (a : Access) × (access_of n l ≡ Ok a) × (t + a.sectors ≤ 4096) ×
+      ((more : List ℕ) × (judged_lines (n + 1) (t + a.sectors) ls ≡ Ok more) × (line_touches a ++ more ≡ ts))
   judged_parts ts h =
       let p = then_parts (access_of n l) _ ts h in
       let a = p.0 in
@@ -37,6 +43,10 @@ module _ (n t : ℕ) (l : List ℕ) (ls : List (List ℕ)) where
       (a, p.1, leb-true _ _ few.0, (r.0, ap (λ s. judged_lines (n + 1) s ls) few.1 ∙ r.1, ok_same r.2))
 
 -- one turn of counting
-pub count_more : (now next number t : ℕ) (rest : List (List ℕ)) (l : List ℕ) (ls : List (List ℕ)) (a : Access) (all : Result ℕ LineFault) → added t (judged_lines (now + 1) t rest) ≡ all → rest ≡ l ∷ ls → number ≡ now + 1 → next ≡ now + 1 → Ok a ≡ access_of number l → t + a.sectors ≤ 4096 → added (t + a.sectors) (judged_lines (next + 1) (t + a.sectors) ls) ≡ all
+pub count_more : (now next number t : ℕ) (rest : List (List ℕ)) (l : List ℕ) (ls : List (List ℕ)) (a : Access) (all : Result ℕ LineFault) →
+    added t (judged_lines (now + 1) t rest) ≡ all → rest ≡ l ∷ ls → number ≡ now + 1 → next ≡ now + 1 → Ok a ≡ access_of number l →
+    t + a.sectors ≤ 4096 → added (t + a.sectors) (judged_lines (next + 1) (t + a.sectors) ls) ≡ all
 count_more now next number t rest l ls a all inv lines is counts e h =
-    rw counts (sym (judged_more (now + 1) t l ls a (ap (λ m. access_of m l) (sym is) ∙ sym e) h) ∙ ap (λ r. added t (judged_lines (now + 1) t r)) (sym lines) ∙ inv)
+    let access : access_of (now + 1) l ≡ Ok a = ap (λ m. access_of m l) (sym is) ∙ sym e in
+    let left = ap (λ r. added t (judged_lines (now + 1) t r)) (sym lines) in
+    rw counts (sym (judged_more (now + 1) t l ls a access h) ∙ left ∙ inv)

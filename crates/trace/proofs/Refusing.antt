@@ -15,11 +15,13 @@ use Rattle.base.specs.Results.{map_err}
 use Rattle.trace.specs.Touches.{judged_lines, judged}
 use Rattle.trace.specs.Faults.{line_report, reported}
 use Rattle.trace.specs.Traces.{FiveFields, UpTo, Whole, Numbers, Number, OpcodeText, TimeStamp, Line}
-use Rattle.trace.specs.Refused.{Wrong, FirstWrong, Refused, field_fault, field_count, no_unit, no_sector, no_size, bad_size, bad_opcode, bad_time_stamp, past_last_sector, too_many_touches, here, later, trace_too_long, wrong_line, too_few_places}
+use Rattle.trace.specs.Refused.{Wrong, FirstWrong, Refused, field_fault, field_count, no_unit, no_sector, no_size, bad_size, bad_opcode}
+use Rattle.trace.specs.Refused.{bad_time_stamp, past_last_sector, too_many_touches, here, later, trace_too_long, wrong_line, too_few_places}
 use Rattle.trace.proofs.Beginnings.{begins_lines}
 use Rattle.trace.proofs.Fives.{fields_cut, fields_access}
 use Rattle.trace.proofs.Sound.{number_read, up_to_read, whole_read, opcode_read, stamp_read}
-use Rattle.trace.proofs.Complete.{number_numeral, up_to_numeral, numbers_access, opcode_asked, stamp_stamped, line_accepted, line_length, trace_accepted}
+use Rattle.trace.proofs.Complete.{number_numeral, up_to_numeral, numbers_access, opcode_asked, stamp_stamped, line_accepted, line_length}
+use Rattle.trace.proofs.Complete.{trace_accepted}
 
 -- what no value would give is not there
 none_from_absurd : {T : Type 0} (o : Option T) → ((x : T) → o ≡ Some x → ⊥) → o ≡ None

@@ -1,5 +1,6 @@
 -- What is read from a field is what it says. Assumes nothing.
-use Rattle.std.proofs.Common.{◌≡◌, ℕ, ◌/◌, ◌%◌, ◌≤◌, true, ◌&&◌, ◌||◌, eqb, leb, List, [], ◌∷◌, length, is_some, Some, None, Option, sym, refl, ap, subst, inl, inr, arith}
+use Rattle.std.proofs.Common.{◌≡◌, ℕ, ◌/◌, ◌%◌, ◌≤◌, true, ◌&&◌, ◌||◌, eqb, leb, List, [], ◌∷◌, length, is_some, Some, None, Option, sym}
+use Rattle.std.proofs.Common.{refl, ap, subst, inl, inr, arith}
 use Rattle.std.specs.List.{AllByRecursion}
 use Rattle.std.proofs.lemmas.Bool.{cases_Bool, and_parts, or_cases, leb-true, eqb-true, false≢true}
 use Rattle.std.proofs.lemmas.Option.{none-some, cond_some}
@@ -58,7 +59,9 @@ opcode_read (b ∷ c ∷ bs) o e = absurd (none-some _ e)
 opcode_read (b ∷ []) o e =
     elim (cases_Bool (eqb b 82 || eqb b 114)) [
       | inl r ↦ elim (or_cases (eqb b 82) (eqb b 114) r) [ inl h ↦ letter b 82 h upper_r | inr h ↦ letter b 114 h lower_r ]
-      | inr r ↦ elim (or_cases (eqb b 87) (eqb b 119) (cond_some _ _ o (rw r at e)).0) [ inl h ↦ letter b 87 h upper_w | inr h ↦ letter b 119 h lower_w ]
+      | inr r ↦
+          let write = (cond_some _ _ o (rw r at e)).0 in
+          elim (or_cases (eqb b 87) (eqb b 119) write) [ inl h ↦ letter b 87 h upper_w | inr h ↦ letter b 119 h lower_w ]
     ]
 
 parts_read : (ps : List (List ℕ)) → stamp_parts ps ≡ true → TimeStamp (rejoined 46 ps)

@@ -1,5 +1,6 @@
 -- How the parts and the lines of a text come from its first mark. Assumes nothing.
-use Rattle.std.proofs.Common.{◌≡◌, ◌≢◌, ℕ, suc, ◌+◌, ◌-◌, ◌<◌, Bool, false, cond, ◌&&◌, eqb, ltb, List, [], ◌∷◌, ◌++◌, length, get_or, take, drop, Some, sym, refl, ap, ◌∙◌, subst, inl, inr, arith, length-drop}
+use Rattle.std.proofs.Common.{◌≡◌, ◌≢◌, ℕ, suc, ◌+◌, ◌-◌, ◌<◌, Bool, false, cond, ◌&&◌, eqb, ltb, List, [], ◌∷◌, ◌++◌, length, get_or, take}
+use Rattle.std.proofs.Common.{drop, Some, sym, refl, ap, ◌∙◌, subst, inl, inr, arith, length-drop}
 use Rattle.std.specs.List.{position, position_or_len, before_first, after_first}
 use Rattle.std.proofs.lemmas.List.{drop-drop, drop_at, drop_all, take_all}
 use Rattle.std.proofs.lemmas.List.Sums.{split_at_first, passes_at_first}
@@ -52,7 +53,8 @@ lacks_before mark (b ∷ bs) = elim (cases_Bool (eqb b mark)) [
       rw (e, next) (λ same. both_ways _ e (eq-eqb b mark same), lacks_before mark bs)
 ]
 
-pub cut_first : (mark at : ℕ) (text : List ℕ) → position (λ b. eqb b mark) text ≡ Some at → Cut mark text (take at text) (take (length text - (at + 1)) (drop (at + 1) text))
+pub cut_first : (mark at : ℕ) (text : List ℕ) → position (λ b. eqb b mark) text ≡ Some at →
+    Cut mark text (take at text) (take (length text - (at + 1)) (drop (at + 1) text))
 cut_first mark at text e =
     let p : ℕ → Bool = λ b. eqb b mark in
     let found = cond_some _ (position_or_len p text) at e in
@@ -108,9 +110,11 @@ lines_fed (b ∷ c ∷ bs) rest h =
     lines_byte b (c ∷ (bs ++ (10 ∷ rest))) h.0 (ne_eqb c 10 h.1.0) ∙ ap (led b) (lines_fed (c ∷ bs) rest h.1)
 
 -- the first line is cut off at a line feed, or is all that there is
-pub first_fed : (text before behind : List ℕ) → Cut 10 text before behind → lines text ≡ unreturned before ∷ lines (drop (length before + 1) text)
+pub first_fed : (text before behind : List ℕ) → Cut 10 text before behind →
+    lines text ≡ unreturned before ∷ lines (drop (length before + 1) text)
 first_fed text before behind h =
-    let rest : drop (length before + 1) (before ++ (10 ∷ behind)) ≡ behind = sym (drop-drop 1 (length before) (before ++ (10 ∷ behind))) ∙ ap (drop 1) (drop_at before (10 ∷ behind) (length before) refl) in
+    let rest : drop (length before + 1) (before ++ (10 ∷ behind)) ≡ behind =
+    sym (drop-drop 1 (length before) (before ++ (10 ∷ behind))) ∙ ap (drop 1) (drop_at before (10 ∷ behind) (length before) refl) in
     rw (h.whole, rest) (lines_fed before behind h.first)
 
 pub lines_only : (text : List ℕ) → 0 < length text → Lacks 10 text → lines text ≡ text ∷ []
@@ -145,7 +149,8 @@ stripped_is line rest h =
           let last = eqb-true (get_or line (length line - 1) 0) 13 p.1 in
           h.off some last ∙ unreturned_off line some last
       | inr e ↦
-          let other : 0 < length line → get_or line (length line - 1) 0 ≡ 13 → ⊥ = λ l q. both_ways _ e (and_from _ _ (lt-ltb 0 (length line) l) (eq-eqb (get_or line (length line - 1) 0) 13 q)) in
+          let other : 0 < length line → get_or line (length line - 1) 0 ≡ 13 → ⊥ =
+          λ l q. both_ways _ e (and_from _ _ (lt-ltb 0 (length line) l) (eq-eqb (get_or line (length line - 1) 0) 13 q)) in
           h.kept other ∙ unreturned_kept line other
     ]
 

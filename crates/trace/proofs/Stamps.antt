@@ -20,12 +20,14 @@ pub stamp_whole : (text : List ℕ) → Lacks 46 text → time_stamp text ≡ is
 stamp_whole text h = rw (parts_none 46 text h)
 
 -- with a second point the fraction is no number
-fraction_refused : (whole : List ℕ) (ps : List (List ℕ)) → 0 < length ps → numeral 9 (rejoined 46 ps) ≡ None → stamp_parts (whole ∷ ps) ≡ false
+fraction_refused : (whole : List ℕ) (ps : List (List ℕ)) → 0 < length ps → numeral 9 (rejoined 46 ps) ≡ None →
+    stamp_parts (whole ∷ ps) ≡ false
 fraction_refused whole [] l e = absurd (omega arith)
 fraction_refused whole (p ∷ []) l e = rw (ap is_some e) (and_right (is_some (numeral 10 whole)) false refl)
 fraction_refused whole (p ∷ q ∷ ps) l e = refl
 
-pub stamp_cut : (text whole fraction : List ℕ) → Cut 46 text whole fraction → time_stamp text ≡ (is_some (numeral 10 whole) && is_some (numeral 9 fraction))
+pub stamp_cut : (text whole fraction : List ℕ) → Cut 46 text whole fraction →
+    time_stamp text ≡ (is_some (numeral 10 whole) && is_some (numeral 9 fraction))
 stamp_cut text whole fraction h =
     elim (cases_Bool (all_digits fraction)) [
       | inl e ↦ ap stamp_parts (parts_next h (parts_none 46 fraction (digits_lack 46 fraction refl e)))

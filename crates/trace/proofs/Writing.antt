@@ -1,5 +1,6 @@
 -- Keys that are written line by line. Assumes nothing.
-use Rattle.std.proofs.Common.{◌≡◌, ℕ, ◌+◌, ◌≤◌, List, ◌∷◌, ◌++◌, map, length, take, drop, Ok, sym, ap, ◌∙◌, subst, append_assoc, arith, length-append}
+use Rattle.std.proofs.Common.{◌≡◌, ℕ, ◌+◌, ◌≤◌, List, ◌∷◌, ◌++◌, map, length, take, drop, Ok, sym, ap, ◌∙◌, subst, append_assoc, arith}
+use Rattle.std.proofs.Common.{length-append}
 use Rattle.std.proofs.lemmas.List.{length-map, map-append}
 use Rattle.std.proofs.lemmas.Slice.{take-put_mid, drop-put_mid}
 use borrow.Rule.Slice.PartMut.{put_mid}
@@ -29,7 +30,8 @@ module _ {n t : ℕ} {lines : List (List ℕ)} {all : List ℕ} {was keys : List
     writing_left : (more : List ℕ) × (judged_lines (number + 1) (t + a.sectors) ls ≡ Ok more) × (line_touches a ++ more ≡ w.rest)
     writing_left =
         let p = judged_parts number t l ls w.rest accepts_first in
-        let P : Access → Type 0 = λ b. (more : List ℕ) × (judged_lines (number + 1) (t + b.sectors) ls ≡ Ok more) × (line_touches b ++ more ≡ w.rest) in
+        let P : Access → Type 0 =
+        λ b. (more : List ℕ) × (judged_lines (number + 1) (t + b.sectors) ls ≡ Ok more) × (line_touches b ++ more ≡ w.rest) in
         subst P (ok_same (sym p.1 ∙ e)) p.3
 
     writing_counts : t + a.sectors + length writing_left.0 ≡ length all
@@ -41,13 +43,16 @@ module _ {n t : ℕ} {lines : List (List ℕ)} {all : List ℕ} {was keys : List
     writing_fits = omega (arith, writing_counts)
 
     -- its touches are written behind the t before
-    pub writing_more : (ys : List VolumeKey) (m k : ℕ) → m ≡ n + 1 → k ≡ a.sectors → length all ≤ length keys → map volume_code ys ≡ line_touches a → Writing m (t + a.sectors) ls all was (put_mid t k keys ys)
+    pub writing_more : (ys : List VolumeKey) (m k : ℕ) → m ≡ n + 1 → k ≡ a.sectors → length all ≤ length keys →
+        map volume_code ys ≡ line_touches a → Writing m (t + a.sectors) ls all was (put_mid t k keys ys)
     writing_more ys m k counts is room touched =
         let more = writing_left in
         let long : length ys ≡ k = sym (length-map ys volume_code) ∙ ap length touched ∙ length-touches a ∙ sym is in
         let front : t ≤ length keys = omega (arith, writing_fits) in
         let before = map volume_code (take t keys) in
-        let written = ap (map volume_code) (take-put_mid t k keys ys (t + a.sectors) (omega arith) front) ∙ map-append volume_code (take t keys) ys ∙ ap (λ cs. before ++ cs) touched in
+        let written =
+        ap (map volume_code) (take-put_mid t k keys ys (t + a.sectors) (omega arith) front) ∙ map-append volume_code (take t keys) ys
+        ∙ ap (λ cs. before ++ cs) touched in
         record {
           rest = more.0;
           accepts = ap (λ j. judged_lines (j + 1) (t + a.sectors) ls) (counts ∙ sym next) ∙ more.1;

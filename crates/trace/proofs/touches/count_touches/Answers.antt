@@ -7,6 +7,7 @@ loop-line-preserved c =
     let told = c.in-Some.ensures.steps in
     let line = c.in-Some.line in
     let few : c.loop-line.count + c.in_ok-access.access.sectors ≤ 4096 = omega arith in (
-      count_more _ _ line.number c.loop-line.count _ line.text.now _ c.in_ok-access.access _ c.loop-line.invariant.0 told.first told.next told.counted c.in_ok-access.ensures few,
+      count_more _ _ line.number c.loop-line.count _ line.text.now _ c.in_ok-access.access _ c.loop-line.invariant.0 told.first
+          told.next told.counted c.in_ok-access.ensures few,
       few,
     )

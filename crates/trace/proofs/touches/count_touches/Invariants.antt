@@ -7,4 +7,5 @@ use Rattle.trace.proofs.touches.count_touches.Given as goal
 
 abbrev pub invariant-loop-line : goal.invariant-loop-line
 invariant-loop-line l =
-    (added l.count (judged_lines (lines_read l.line-iterator + 1) l.count (lines (unread l.line-iterator))) ≡ counted (judged_lines 1 0 (lines l.text))) × (l.count ≤ 4096)
+    (added l.count (judged_lines (lines_read l.line-iterator + 1) l.count (lines (unread l.line-iterator))) ≡
+    counted (judged_lines 1 0 (lines l.text))) × (l.count ≤ 4096)
