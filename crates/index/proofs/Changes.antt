@@ -1,5 +1,6 @@
 -- What freeing and taking a slot does to the map that a list of slots holds.
-use Rattle.std.proofs.Common.{◌≡◌, ℕ, ◌+◌, ◌<◌, ◌≤◌, cond, eqb, List, length, get_or, set, Option, is_some, Some, None, sum_by, count_by, true, sym, refl, ap, ◌∙◌, inl, inr, arith}
+use Rattle.std.proofs.Common.{◌≡◌, ℕ, ◌+◌, ◌<◌, ◌≤◌, cond, eqb, List, length, get_or, set, Option, is_some, Some, None, sum_by, count_by}
+use Rattle.std.proofs.Common.{true, sym, refl, ap, ◌∙◌, inl, inr, arith}
 use Rattle.std.specs.Map.{update}
 use Rattle.std.proofs.lemmas.List.{get_or_past, get_or_default}
 use Rattle.std.proofs.lemmas.List.Sums.{sum_by-set}
@@ -20,7 +21,8 @@ taken_from_holds : {K : Type 0} (code : K → ℕ) (c : ℕ) (s : Option (Entry 
 taken_from_holds code c None h = h
 taken_from_holds code c (Some x) h = refl
 
-pub held_entry : {K : Type 0} (code : K → ℕ) → ((a b : K) → code a ≡ code b → a ≡ b) → (k : K) (s : Option (Entry K)) → holds code (code k) s ≡ true →
+pub held_entry : {K : Type 0} (code : K → ℕ) → ((a b : K) → code a ≡ code b → a ≡ b) → (k : K) (s : Option (Entry K)) →
+    holds code (code k) s ≡ true →
     (n : ℕ) × (s ≡ Some (record { key = k; number = n }))
 held_entry code faithful k None h = absurd (true≢false (sym h))
 held_entry code faithful k (Some x) h =
@@ -37,7 +39,8 @@ within_from_taken xs p x there =
 pub within_from_some : {X : Type 0} (xs : List (Option X)) (p : ℕ) → is_some (get_or xs p None) ≡ true → p < length xs
 within_from_some xs p taken = let q = some_entry (get_or xs p None) taken in within_from_taken xs p q.0 q.1
 
-pub within_from_holds : {K : Type 0} (code : K → ℕ) (xs : List (Option (Entry K))) (p c : ℕ) → holds code c (get_or xs p None) ≡ true → p < length xs
+pub within_from_holds : {K : Type 0} (code : K → ℕ) (xs : List (Option (Entry K))) (p c : ℕ) → holds code c (get_or xs p None) ≡ true →
+    p < length xs
 within_from_holds code xs p c h = within_from_some xs p (taken_from_holds code c (get_or xs p None) h)
 
 -- what was read at p, at any default, stands there at the default None

@@ -34,4 +34,11 @@ module _ {K : Type 0} (code : K → ℕ) where
   number_only c (None ∷ xs) h =
       grind (arith, nat_tests, sum_by-cons, count_by-cons, number_only c xs)
   number_only c (Some x ∷ xs) h =
-      grind (arith, nat_tests, sum_by-cons (amount c) (Some x) xs, count_by-cons (holds code c) (Some x) xs, number_only c xs, amount_none c xs)
+      grind (
+        arith,
+        nat_tests,
+        sum_by-cons (amount c) (Some x) xs,
+        count_by-cons (holds code c) (Some x) xs,
+        number_only c xs,
+        amount_none c xs,
+      )

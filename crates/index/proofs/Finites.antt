@@ -27,7 +27,8 @@ module _ {K : Type 0} (code : K → ℕ) where
   codes_count c (Some x ∷ xs) =
       omega (arith, count_by-cons (holds code c) (Some x) xs, count_by-cons (eqb c) (code x.key) (codes xs), codes_count c xs)
 
-  codes_once : (c : ℕ) (xs : List (Option (Entry K))) → count_by (holds code c) xs ≤ 1 → count_by (eqb c) (codes xs) ≡ cond (is_some (number_of code xs c)) 1 0
+  codes_once : (c : ℕ) (xs : List (Option (Entry K))) → count_by (holds code c) xs ≤ 1 →
+      count_by (eqb c) (codes xs) ≡ cond (is_some (number_of code xs c)) 1 0
   codes_once c xs h = rw (codes_count c xs, number_only code c xs h) (grind (arith, nat_tests))
 
   pub finite_from_sound : (spread : K → ℕ) (index : Index K) → SoundIndex code spread index → Finite (map_of code index)

@@ -4,7 +4,6 @@ pub mod Counts
 pub mod Changes
 pub mod Finites
 pub mod Searches
-pub mod Stops
 pub mod Gaps
 pub mod Distances
 pub mod Turns

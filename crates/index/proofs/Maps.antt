@@ -7,13 +7,16 @@ use Rattle.std.proofs.lemmas.Map.{update_here, update_apart}
 use Rattle.index.specs.Maps.{Map, after_put, after_remove}
 
 module _ (m : Map) (code : ℕ) where
-  pub after_put_known : (number old : ℕ) → m.at code ≡ Some old → after_put m code number ≡ record { at = update eqb m.at code (Some number); size = m.size; places = m.places }
+  pub after_put_known : (number old : ℕ) → m.at code ≡ Some old →
+      after_put m code number ≡ record { at = update eqb m.at code (Some number); size = m.size; places = m.places }
   after_put_known number old e = rw e
 
-  pub after_put_new : (number : ℕ) → m.at code ≡ None → m.size < m.places → after_put m code number ≡ record { at = update eqb m.at code (Some number); size = m.size + 1; places = m.places }
+  pub after_put_new : (number : ℕ) → m.at code ≡ None → m.size < m.places →
+      after_put m code number ≡ record { at = update eqb m.at code (Some number); size = m.size + 1; places = m.places }
   after_put_new number e less = rw (e, lt-ltb m.size m.places less)
 
-  pub after_remove_known : (old : ℕ) → m.at code ≡ Some old → after_remove m code ≡ record { at = update eqb m.at code None; size = m.size - 1; places = m.places }
+  pub after_remove_known : (old : ℕ) → m.at code ≡ Some old →
+      after_remove m code ≡ record { at = update eqb m.at code None; size = m.size - 1; places = m.places }
   after_remove_known old e = rw e
 
   unchanged : m.at code ≡ None → (c : ℕ) → update eqb m.at code None c ≡ m.at c

@@ -30,6 +30,7 @@ module _ (n : ℕ) where
   steps_between a b c p q r h = grind (arith, nat_tests)
 
   -- what lies between b and d lies before d on the way that leads from a across b
-  pub steps_before : (a b c d : ℕ) → a < n → b < n → c < n → d < n → steps n a b < steps n a d → steps n b c < steps n b d → steps n a c < steps n a d
+  pub steps_before : (a b c d : ℕ) → a < n → b < n → c < n → d < n → steps n a b < steps n a d → steps n b c < steps n b d →
+      steps n a c < steps n a d
   steps_before a b c d p q r s h k =
       let e = steps_between a b d p q s (omega arith) in let m = steps_below a d p s in grind (arith, nat_tests)

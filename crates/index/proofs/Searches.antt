@@ -1,12 +1,14 @@
 -- Looking for a key from its home upward: what is known of the slots that were passed.
 use Rattle.std.proofs.Common.{◌≡◌, ℕ, suc, ◌<◌, Bool, true, false, List, [], ◌∷◌, length, get_or, Option, is_some, Some, None}
-use Rattle.std.proofs.Common.{count_by, sym, refl, inl, inr, arith}
-use Rattle.std.proofs.lemmas.Bool.{both_ways, cases_order, ne_eqb, false≢true}
+use Rattle.std.proofs.Common.{count_by, sym, refl, ◌∙◌, inl, inr, arith}
+use Rattle.std.proofs.lemmas.Bool.{both_ways, cases_eq, cases_order, eq-eqb, ne_eqb, false≢true}
 use Rattle.std.proofs.lemmas.Bool.Decides.{nat_tests}
+use Rattle.std.proofs.lemmas.Option.{same_Some, none-some}
 use Rattle.index.specs.declared.slot.Entry.{Entry}
 use Rattle.index.specs.Places.{steps}
 use Rattle.index.specs.Slots.{holds, home, AllReached}
-use Rattle.index.specs.Probes.{Absent, Open, Stops, passes}
+use Rattle.index.specs.Probes.{Absent, Open, Stops, stop_in, passes}
+use Rattle.index.specs.declared.index.probing.Stop.{Stop}
 use Rattle.index.proofs.Counts.{count_by-cons}
 use Rattle.index.proofs.Homes.{home_below}
 use Rattle.index.proofs.Places.{steps_same}
@@ -37,6 +39,24 @@ module _ {K : Type 0} (code spread : K → ℕ) (xs : List (Option (Entry K))) (
   abbrev way : ℕ → ℕ
   way place = steps (length xs) (home spread (length xs) key) place
 
+  stops_free : (slot : Option (Entry K)) (n : Option ℕ) → stop_in code (code key) slot ≡ Some n → n ≡ None → slot ≡ None
+  stops_free None n at e = refl
+  stops_free (Some x) n at e = elim (cases_eq (code key) (code x.key)) [
+    | inl same ↦ absurd (none-some x.number (sym (same_Some _ n (rw (eq-eqb (code key) (code x.key) same) at at) ∙ e)))
+    | inr other ↦ absurd (none-some n (rw (ne_eqb (code key) (code x.key) other) at at))
+  ]
+
+  stops_held : ((a b : K) → code a ≡ code b → a ≡ b) → (slot : Option (Entry K)) (n : Option ℕ) (m : ℕ) →
+      stop_in code (code key) slot ≡ Some n → n ≡ Some m → slot ≡ Some (record { key = key; number = m })
+  stops_held faithful None n m at e = absurd (none-some m (same_Some None n at ∙ e))
+  stops_held faithful (Some x) n m at e = elim (cases_eq (code key) (code x.key)) [
+    | inl same ↦
+        let k = sym (faithful key x.key same) in
+        let v = same_Some x.number m (same_Some _ n (rw (eq-eqb (code key) (code x.key) same) at at) ∙ e) in
+        λ i. Some (record { key = k i; number = v i })
+    | inr other ↦ absurd (none-some n (rw (ne_eqb (code key) (code x.key) other) at at))
+  ]
+
   -- every slot is taken by another key
   pub full_from_stops : Stops code spread xs key None → Absent code xs key × (count_by is_some xs ≡ length xs)
   full_from_stops passed = (
@@ -49,9 +69,11 @@ module _ {K : Type 0} (code spread : K → ℕ) (xs : List (Option (Entry K))) (
   other_slot (Some x) h = ne_eqb (code key) (code x.key) (λ e. h x refl (sym e))
 
   -- behind a free slot the key is not reached, so it is nowhere
-  pub open_from_stops : ((a b : K) → code a ≡ code b → a ≡ b) → AllReached spread xs → (place : ℕ) →
-      Stops code spread xs key (Some place) → get_or xs place None ≡ None → Open code spread xs key place
-  open_from_stops faithful reached place (within, stops, passed) free =
+  pub open_from_stops : ((a b : K) → code a ≡ code b → a ≡ b) → AllReached spread xs → (s : Stop) →
+      Stops code spread xs key (Some s) → s.number ≡ None → Open code spread xs key s.place
+  open_from_stops faithful reached s (within, at, passed) none =
+      let place = s.place in
+      let free = stops_free (get_or xs place None) s.number at none in
       let below = home_below spread (length xs) key (omega (arith, within)) in
       record {
         within = within;
@@ -66,3 +88,9 @@ module _ {K : Type 0} (code spread : K → ℕ) (xs : List (Option (Entry K))) (
             ]);
         way = λ p l b. passes_taken code (code key) (get_or xs p None) (passed p l b);
       }
+
+  -- a slot with a number is the key's
+  pub found_from_stops : ((a b : K) → code a ≡ code b → a ≡ b) → (s : Stop) (n : ℕ) → Stops code spread xs key (Some s) →
+      s.number ≡ Some n →
+      get_or xs s.place None ≡ Some (record { key = key; number = n })
+  found_from_stops faithful s n (within, at, passed) some = stops_held faithful (get_or xs s.place None) s.number n at some

@@ -1,5 +1,6 @@
 -- What the calls of an index do to the map that its slots hold.
-use Rattle.std.proofs.Common.{◌≡◌, ℕ, ◌+◌, ◌-◌, ◌<◌, ◌≤◌, Bool, true, false, cond, eqb, List, length, get_or, set, Option, is_some, Some, None, count_by, sym, refl, ◌∙◌, inl, inr, arith, length-set}
+use Rattle.std.proofs.Common.{◌≡◌, ℕ, ◌+◌, ◌-◌, ◌<◌, ◌≤◌, Bool, true, false, cond, eqb, List, length, get_or, set, Option, is_some, Some}
+use Rattle.std.proofs.Common.{None, count_by, sym, refl, ◌∙◌, inl, inr, arith, length-set}
 use mathlib.Core.Path.{fun_ext}
 use Rattle.std.specs.Map.{update}
 use Rattle.std.proofs.Math.ListN.{replicate}
@@ -16,7 +17,8 @@ use Rattle.index.specs.declared.index.Index.{Index}
 use Rattle.index.specs.Slots.{holds, number_of, slots_of, slots_map, Before, AllReached, SoundIndex}
 use Rattle.index.specs.Probes.{Absent, Open, Probed, Tells, Vacated}
 use Rattle.index.proofs.Counts.{number_only}
-use Rattle.index.proofs.Changes.{within_from_taken, freed_size, freed_different, freed_present, freed_at, renumbered, renumbered_size, renumbered_at, filled_size, filled_different, filled_at}
+use Rattle.index.proofs.Changes.{within_from_taken, freed_size, freed_different, freed_present, freed_at, renumbered, renumbered_size}
+use Rattle.index.proofs.Changes.{renumbered_at, filled_size, filled_different, filled_at}
 use Rattle.index.proofs.Maps.{after_put_known, after_put_new, after_remove_known}
 
 -- maps with the same numbers, size and places are equal
@@ -69,7 +71,8 @@ module _ {K : Type 0} (code spread : K → ℕ) (xs : List (Option (Entry K))) w
       found_at = freed_present code xs (set xs p None) p x there different (λ f. refl)
 
       -- the slots with a new number there
-      pub renumbered_map : (n : ℕ) → slots_map code (renumbered code xs p x n there different) ≡ after_put (slots_map code xs) (code x.key) n
+      pub renumbered_map : (n : ℕ) →
+          slots_map code (renumbered code xs p x n there different) ≡ after_put (slots_map code xs) (code x.key) n
       renumbered_map n =
           same_map (slots_map code (renumbered code xs p x n there different))
           (record { at = update eqb (number_of code xs) (code x.key) (Some n); size = count_by is_some xs; places = length xs })
@@ -87,7 +90,11 @@ module _ {K : Type 0} (code spread : K → ℕ) (xs : List (Option (Entry K))) w
         pub removed_map : slots_map code ys ≡ after_remove (slots_map code xs) (code x.key)
         removed_map =
             let size = removed_size in
-            same_map (slots_map code ys) (record { at = update eqb (number_of code xs) (code x.key) None; size = count_by is_some xs - 1; places = length xs })
+            same_map (slots_map code ys) (record {
+              at = update eqb (number_of code xs) (code x.key) None;
+              size = count_by is_some xs - 1;
+              places = length xs;
+            })
             (freed_at code xs ys p x there different v.same) (omega arith) v.long
             ∙ sym (after_remove_known (slots_map code xs) (code x.key) x.number found_at)
 
@@ -105,7 +112,11 @@ module _ {K : Type 0} (code spread : K → ℕ) (xs : List (Option (Entry K))) w
 
       pub added_map : slots_map code (set xs p (Some x)) ≡ after_put (slots_map code xs) (code x.key) x.number
       added_map =
-          same_map (slots_map code (set xs p (Some x))) (record { at = update eqb (number_of code xs) (code x.key) (Some x.number); size = count_by is_some xs + 1; places = length xs })
+          same_map (slots_map code (set xs p (Some x))) (record {
+            at = update eqb (number_of code xs) (code x.key) (Some x.number);
+            size = count_by is_some xs + 1;
+            places = length xs;
+          })
           (filled_at code xs p x o.within o.free different o.absent) added_size (length-set xs p (Some x))
           ∙ sym (after_put_new (slots_map code xs) (code x.key) x.number (absent_none x.key o.absent) added_room)
 

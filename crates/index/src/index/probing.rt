@@ -1,8 +1,8 @@
 // Where a key stands, and how a slot is freed. The way of a key leads from its home upward, slot by slot
 // and from the last on to the first, and ends at its own slot or at a free one.
-ghost use Rattle.std.specs.Prelude.{◌≡◌, ◌<◌, ◌≤◌, not, length};
+ghost use Rattle.std.specs.Prelude.{◌≡◌, ◌<◌, ◌≤◌, length};
 ghost use Rattle.index.specs.Slots.{home, AllReached};
-ghost use Rattle.index.specs.Probes.{passes, Probed, Stops, StopsBetween, Vacated};
+ghost use Rattle.index.specs.Probes.{stop_in, Probed, Stops, StopsBetween, Vacated};
 
 use crate::ring::steps;
 use crate::slot::Slot;
@@ -24,34 +24,47 @@ fn home_of<K: Key>(slots: &[Slot<K>], key: &K) -> usize
     ((u128::from(key.spread()) * slots.len() as u128) >> 32) as usize
 }
 
-// Whether a slot is free or holds a key with the code.
-fn stops<K: Key>(slot: &Slot<K>, code: u64) -> bool
-    ensures { result ≡ not (passes K.Key.code code slot.now) }
+// Where a search stops: at a free slot, or at one that holds the key, with its number.
+#[derive(Clone, Copy)]
+struct Stop {
+    place: usize,
+    number: Option<u32>,
+}
+
+// Whether a search for a code stops at a slot, and with which number: it passes a slot that holds another key.
+fn stop_at<K: Key>(slot: &Slot<K>, code: u64) -> Option<Option<u32>>
+    ensures { result ≡ stop_in K.Key.code code slot.now }
 {
     match slot {
-        None => true,
-        Some(entry) => entry.key.code() == code,
+        None => Some(None),
+        Some(entry) if entry.key.code() == code => Some(Some(entry.number)),
+        Some(_) => None,
     }
 }
 
-// The first place from one up to another whose slot is free or holds a key with the code.
-fn stop_between<K: Key>(slots: &[Slot<K>], code: u64, from: usize, to: usize) -> Option<usize>
+// The first place from one up to another at which the search for a code stops. What stands there is answered with it, so that no
+// slot is looked at twice.
+fn stop_between<K: Key>(slots: &[Slot<K>], code: u64, from: usize, to: usize) -> Option<Stop>
     requires { (from ≤ to) × (to ≤ length slots.now) }
     ensures { StopsBetween K.Key.code slots.now code from to result }
 {
-    let at = slots[from..to].iter().position(|slot| stops(slot, code))?;
-    Some(from + at)
+    for place in from..to {
+        if let Some(number) = stop_at(&slots[place], code) {
+            return Some(Stop { place, number });
+        }
+    }
+    None
 }
 
 // The first place on the way of a key whose slot is free or holds the key.
 #[tactic(auto, using(crate::proofs::Homes::home_within))]
-fn stop_of<K: Key>(slots: &[Slot<K>], key: &K) -> Option<usize>
+fn stop_of<K: Key>(slots: &[Slot<K>], key: &K) -> Option<Stop>
     ensures { Stops K.Key.code K.Key.spread slots.now key.now result }
 {
     let code = key.code();
     let home = home_of(slots, key);
-    if let Some(place) = stop_between(slots, code, home, slots.len()) {
-        return Some(place);
+    if let Some(stop) = stop_between(slots, code, home, slots.len()) {
+        return Some(stop);
     }
     stop_between(slots, code, 0, home)
 }
@@ -61,15 +74,12 @@ pub fn look_up<K: Key>(slots: &[Slot<K>], key: &K) -> Probe
     requires { AllReached K.Key.spread slots.now }
     ensures { Probed K.Key.code K.Key.spread slots.now key.now result }
 {
-    let Some(place) = stop_of(slots, key) else {
+    let Some(Stop { place, number }) = stop_of(slots, key) else {
         return Probe::Full;
     };
-    match slots[place] {
+    match number {
         None => Probe::Vacant(place),
-        Some(entry) => Probe::Found {
-            place,
-            number: entry.number,
-        },
+        Some(number) => Probe::Found { place, number },
     }
 }
 
