@@ -1,20 +1,21 @@
 -- What an image disk means. Assumes nothing.
 use Rattle.std.specs.Prelude.{ℕ, ◌+◌, ◌*◌, ◌/◌, min, ◌&&◌, List, ◌++◌, length, take, drop, nat_lt}
 use Rattle.base.specs.Lists.{member}
+use Rattle.base.specs.declared.limits.TheConstants.{SECTOR_BYTES}
 use Rattle.disk.specs.Meaning.{Meaning, largest_count}
 use Rattle.disk.specs.declared.image.ImageDisk.{ImageDisk}
 
 -- the whole sectors of an image, as many as a disk can have
 abbrev pub whole_sectors : List ℕ → ℕ
-whole_sectors image = min (length image / 512) largest_count
+whole_sectors image = min (length image / SECTOR_BYTES) largest_count
 
 -- the bytes of a sector of an image
 abbrev pub sector_of : List ℕ → ℕ → List ℕ
-sector_of image x = take 512 (drop (x * 512) image)
+sector_of image x = take SECTOR_BYTES (drop (x * SECTOR_BYTES) image)
 
 -- an image with the bytes of one sector replaced
 abbrev pub image_written : List ℕ → ℕ → List ℕ → List ℕ
-image_written image x buffer = take (x * 512) image ++ (buffer ++ drop (x * 512 + 512) image)
+image_written image x buffer = take (x * SECTOR_BYTES) image ++ (buffer ++ drop (x * SECTOR_BYTES + SECTOR_BYTES) image)
 
 -- a disk over an image, with the listed sectors dead
 abbrev pub image_of : List ℕ → List ℕ → ℕ → ℕ → Meaning

@@ -1,5 +1,6 @@
 -- What a disk means, and what a read and a write do to it. Assumes nothing.
 use Rattle.std.specs.Prelude.{◌≡◌, ℕ, ◌+◌, ◌-◌, ◌^◌, ◌<◌, ◌≤◌, min, Bool, cond, List, length, is_ok, Ok, Err, Result, ◌==◌, nat_lt}
+use Rattle.base.specs.declared.limits.TheConstants.{SECTOR_BYTES}
 use Rattle.base.specs.declared.refusal.Refusal.{Refusal}
 use Rattle.base.specs.declared.refusal.Refusal.TheVariants.{BufferLength, NoSuchSector, DeadSector}
 
@@ -30,11 +31,14 @@ replaced f a v x = cond (x == a) v (f x)
 -- sector is dead.
 abbrev pub answer : Meaning → ℕ → ℕ → Result (Unit {0}) Refusal
 answer m sector len =
-    cond (len == 512) (cond (nat_lt sector m.count) (cond (m.dead sector) (Err DeadSector) (Ok tt)) (Err NoSuchSector)) (Err BufferLength)
+    cond (len == SECTOR_BYTES)
+    (cond (nat_lt sector m.count) (cond (m.dead sector) (Err DeadSector) (Ok tt)) (Err NoSuchSector))
+    (Err BufferLength)
 
 -- what a disk of so many sectors says of a call before it looks at the sector
 abbrev pub judged_call : ℕ → ℕ → ℕ → Result (Unit {0}) Refusal
-judged_call count sector len = cond (len == 512) (cond (nat_lt sector count) (Ok tt) (Err NoSuchSector)) (Err BufferLength)
+judged_call count sector len =
+    cond (len == SECTOR_BYTES) (cond (nat_lt sector count) (Ok tt) (Err NoSuchSector)) (Err BufferLength)
 
 -- whether such a call is served
 abbrev pub serves : Meaning → ℕ → ℕ → Bool
@@ -61,9 +65,9 @@ after_write m sector buffer = cond (serves m sector (length buffer)) (written_on
 abbrev pub unserved : Meaning → Meaning
 unserved m = record m { reads = 0; writes = 0 }
 
--- every sector of a disk has 512 bytes
+-- every sector that a disk has is SECTOR_BYTES long
 abbrev pub Sized : Meaning → Type 0
-Sized m = (x : ℕ) → x < m.count → length (m.bytes x) ≡ 512
+Sized m = (x : ℕ) → x < m.count → length (m.bytes x) ≡ SECTOR_BYTES
 
 -- both tallies have 64 bits
 abbrev pub Tallied : Meaning → Type 0

@@ -1,6 +1,7 @@
 // What the image disk does.
 ghost use Rattle.std.specs.Prelude.{◌≡◌, ℕ, ◌*◌, ◌/◌, ◌<◌, min, false, List, length, if◌then◌else◌};
 ghost use Rattle.base.specs.Lists.{member};
+ghost use Rattle.base.specs.declared.limits.TheConstants.{SECTOR_BYTES};
 ghost use Rattle.disk.specs.Meaning.{answer, serves, raised, largest_count, after_read, buffer_read, after_write};
 ghost use Rattle.disk.specs.Image.{imaged, image_of, image_written, sector_of};
 
@@ -11,7 +12,7 @@ use base::{Refusal, SECTOR_BYTES};
 
 // Copies a buffer into a whole sector of an image.
 fn copy_in(image: &mut [u8], sector: u32, buffer: &[u8])
-    requires { (sector < length image.old / 512) × (length buffer.now ≡ 512) }
+    requires { (sector < length image.old / SECTOR_BYTES) × (length buffer.now ≡ SECTOR_BYTES) }
     ensures { image.new ≡ image_written image.old sector buffer.now }
 {
     let at = sector as usize * SECTOR_BYTES;
@@ -49,7 +50,7 @@ impl<'a> ImageDisk<'a> {
 
     // Copies a whole sector of the image into a buffer.
     fn copy_out(&self, sector: u32, buffer: &mut [u8])
-        requires { (sector < length self.now.image.now / 512) × (length buffer.old ≡ 512) }
+        requires { (sector < length self.now.image.now / SECTOR_BYTES) × (length buffer.old ≡ SECTOR_BYTES) }
         ensures { buffer.new ≡ sector_of self.now.image.now sector }
     {
         let at = sector as usize * SECTOR_BYTES;
