@@ -76,7 +76,8 @@ module _ {K : Type 0} (code spread : K → ℕ) (xs : List (Option (Entry K))) w
       renumbered_map n =
           same_map (slots_map code (renumbered code xs p x n there different))
           (record { at = update eqb (number_of code xs) (code x.key) (Some n); size = count_by is_some xs; places = length xs })
-          (renumbered_at code xs p x n there different) (renumbered_size code xs p x n there different) (length-set xs p (Some (record { key = x.key; number = n })))
+          (renumbered_at code xs p x n there different) (renumbered_size code xs p x n there different)
+          (length-set xs p (Some (record { key = x.key; number = n })))
           ∙ sym (after_put_known (slots_map code xs) (code x.key) n x.number found_at)
 
       -- the slots once it is taken out

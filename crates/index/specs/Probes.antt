@@ -36,12 +36,14 @@ Passed code slots c from to = (p : ℕ) → from ≤ p → p < to → passes cod
 abbrev pub StopsBetween : {K : Type 0} → (K → ℕ) → List (Option (Entry K)) → ℕ → ℕ → ℕ → Option Stop → Type 0
 StopsBetween code slots c from to None = Passed code slots c from to
 StopsBetween code slots c from to (Some s) =
-    (from ≤ s.place) × (s.place < to) × (stop_in code c (slice_index_or slots s.place None) ≡ Some s.number) × Passed code slots c from s.place
+    (from ≤ s.place) × (s.place < to) × (stop_in code c (slice_index_or slots s.place None) ≡ Some s.number)
+    × Passed code slots c from s.place
 
 -- the first place on the way of a key whose slot does not pass, and the number there
 abbrev pub Stops : {K : Type 0} → (K → ℕ) → (K → ℕ) → List (Option (Entry K)) → K → Option Stop → Type 0
 Stops code spread slots key None = Passed code slots (code key) 0 (length slots)
-Stops code spread slots key (Some s) = (s.place < length slots) × (stop_in code (code key) (slice_index_or slots s.place None) ≡ Some s.number)
+Stops code spread slots key (Some s) =
+    (s.place < length slots) × (stop_in code (code key) (slice_index_or slots s.place None) ≡ Some s.number)
     × ((p : ℕ) → p < length slots → Before spread slots key p s.place → passes code (code key) (slice_index_or slots p None) ≡ true)
 
 -- the key's slot with its number, or the slot to put it into, or neither, with every slot taken

@@ -70,9 +70,7 @@ impl<'a, K: Key> HeldKeys<'a, K> {
         }
     }
 
-    // Holds the key at a place of the list in a frame, filled or the next to fill; a key that the frame held is put out. A call of
-    // its own would take a tenth of the instructions of a fetch.
-    #[inline(always)]
+    // Holds the key at a place of the list in a frame, filled or the next to fill; a key that the frame held is put out.
     pub fn hold(&mut self, keys: &[K], frame: usize, place: usize)
         requires sound { SoundIndex K.Key.code K.Key.spread self.old.index }
         requires within { (frame < length self.old.held.now) × ((frame < 64) × ((place < length keys.now) × (place < 4096))) }
