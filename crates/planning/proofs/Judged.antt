@@ -3,9 +3,10 @@ use Rattle.std.proofs.Common.{◌≡◌, ℕ, ◌<◌, ◌≤◌, ◌&&◌, leb,
 use Rattle.std.specs.Result.{result_and}
 use Rattle.std.proofs.lemmas.List.{get_or-map}
 use Rattle.std.proofs.lemmas.Bool.{cases_Bool, and_parts, leb-true}
+use Rattle.base.specs.declared.limits.TheConstants.{MAX_TOUCHES}
 use Rattle.base.specs.declared.refusal.Refusal.{Refusal}
 use Rattle.policy.specs.Machine.{Rules, start, fetches}
-use Rattle.planning.specs.Replay.{most_touches, lists_answer, replayed}
+use Rattle.planning.specs.Replay.{lists_answer, replayed}
 
 pub never : {A E : Type 0} (e : E) (a : A) → ◌≡◌ {A = Result A E} (Err e) (Ok a) → ⊥
 never e a h = let z : ◌≡◌ {A = ℕ} 0 1 = cc in omega arith
@@ -28,11 +29,11 @@ pub record Enough (touches slots k held : ℕ) : Type 0 where
   pub held_for : k ≤ held
 
 pub lists_enough : (n slots k held : ℕ) → Ok tt ≡ lists_answer n slots k held → Enough n slots k held
-lists_enough n slots k held e = elim (cases_Bool (leb n most_touches)) [
+lists_enough n slots k held e = elim (cases_Bool (leb n MAX_TOUCHES)) [
   | inl a ↦ elim (cases_Bool (leb n slots && leb k held)) [
     | inl b ↦
         let p = and_parts (leb n slots) (leb k held) b in
-        record { few = leb-true n most_touches a; slots_for = leb-true n slots p.0; held_for = leb-true k held p.1 }
+        record { few = leb-true n MAX_TOUCHES a; slots_for = leb-true n slots p.0; held_for = leb-true k held p.1 }
     | inr b ↦ absurd (never _ tt (sym (rw (a, b) at e)))
   ]
   | inr a ↦ absurd (never _ tt (sym (rw a at e)))

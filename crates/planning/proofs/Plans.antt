@@ -7,6 +7,7 @@ use Rattle.std.proofs.lemmas.List.{length-map}
 use Rattle.base.specs.Geometries.{frames_of, pins_of, judged_numbers, read_off, built}
 use Rattle.base.specs.Lists.{member}
 use Rattle.base.specs.declared.geometry.Geometry.{Geometry}
+use Rattle.base.specs.declared.limits.TheConstants.{MAX_TOUCHES}
 use Rattle.base.specs.declared.refusal.Refusal.{Refusal}
 use Rattle.policy.specs.Machine.{Rules}
 use Rattle.planning.specs.declared.plan.Plan.{Plan}
@@ -14,7 +15,7 @@ use Rattle.planning.specs.declared.lists.Places.{Places}
 use Rattle.planning.specs.Lists.{room_in, enough}
 use Rattle.planning.specs.Minimum.{min_keys, min_serves, min_fetches}
 use Rattle.planning.specs.Plan.{Planning, ceiling, plan_answer, planning_of, forecast_of, planned, forecasted, answer_of, serving_after}
-use Rattle.planning.specs.Replay.{most_touches, lists_answer}
+use Rattle.planning.specs.Replay.{lists_answer}
 use Rattle.planning.proofs.Judged.{never, same_ok}
 
 -- lists that are as long as others
@@ -34,7 +35,7 @@ pub record Passed (n k h held : ℕ) (p : Places) : Type 0 where
 
 pub plan_passed : (n k h held : ℕ) (p : Places) → Ok tt ≡ plan_answer n k h held p → Passed n k h held p
 plan_passed n k h held p e = elim (cases_Bool (leb 1 k && leb k 64)) [
-  | inl a ↦ elim (cases_Bool (leb n most_touches)) [
+  | inl a ↦ elim (cases_Bool (leb n MAX_TOUCHES)) [
     | inl b ↦ elim (cases_Bool (enough n held p)) [
       | inl c ↦ elim (cases_Bool (leb 1 h && leb h k)) [
         | inl d ↦
@@ -44,7 +45,7 @@ plan_passed n k h held p e = elim (cases_Bool (leb 1 k && leb k 64)) [
             let t = and_parts (leb 1 h) (leb h k) d in
             record {
               frames = (leb-true 1 k f.0, leb-true k 64 f.1);
-              few = leb-true n most_touches b;
+              few = leb-true n MAX_TOUCHES b;
               slots_for = omega (arith, room);
               next_for = omega (arith, room);
               serving_for = omega (arith, room);
@@ -86,7 +87,7 @@ module _ {Setting State : Type 0} (r : Rules Setting State) (c : Setting) (touch
 pub plan_passes : (n k h : ℕ) (p : Places) → Passed n k h (max k h) p → Ok tt ≡ plan_answer n k h h p
 plan_passes n k h p q = rw (
   and_from (leb 1 k) (leb k 64) (le-leb 1 k q.frames.0) (le-leb k 64 q.frames.1),
-  le-leb n most_touches q.few,
+  le-leb n MAX_TOUCHES q.few,
   and_from (leb n (room_in p)) (leb h p.held) (le-leb n (room_in p) (omega (arith, q.slots_for, q.next_for, q.serving_for)))
       (le-leb h p.held (omega (arith, q.held_for))),
   and_from (leb 1 h) (leb h k) (le-leb 1 h q.smaller.0) (le-leb h k q.smaller.1),
@@ -95,7 +96,7 @@ plan_passes n k h p q = rw (
 -- and so does the replay
 pub replay_passes : (n k h : ℕ) (p : Places) → Passed n k h (max k h) p → Ok tt ≡ lists_answer n p.slots k p.held
 replay_passes n k h p q = rw (
-  le-leb n most_touches q.few,
+  le-leb n MAX_TOUCHES q.few,
   and_from (leb n p.slots) (leb k p.held) (le-leb n p.slots q.slots_for) (le-leb k p.held (omega (arith, q.held_for))),
 )
 

@@ -1,6 +1,7 @@
 -- What planning answers. Assumes nothing.
 use Rattle.std.specs.Prelude.{ℕ, ◌+◌, ◌-◌, ◌*◌, ◌/◌, max, cond, ◌&&◌, List, [], ◌++◌, length, drop, Ok, Err, Result, nat_le}
 use Rattle.std.specs.Result.{result_and}
+use Rattle.base.specs.declared.limits.TheConstants.{MAX_FRAMES, MAX_TOUCHES}
 use Rattle.base.specs.declared.refusal.Refusal.{Refusal}
 use Rattle.base.specs.declared.refusal.Refusal.TheVariants.{FrameCount, ListTooLong, TooFewPlaces, SmallerFrameCount}
 use Rattle.policy.specs.Machine.{Rules, start, fetches}
@@ -9,7 +10,6 @@ use Rattle.planning.specs.declared.forecast.Forecast.{Forecast}
 use Rattle.planning.specs.declared.lists.Places.{Places}
 use Rattle.planning.specs.Lists.{enough}
 use Rattle.planning.specs.Minimum.{min_serves, min_fetches}
-use Rattle.planning.specs.Replay.{most_touches}
 
 -- the ceiling on the fetches of k frames, from d fetches on h frames
 abbrev pub ceiling : ℕ → ℕ → ℕ → ℕ
@@ -22,8 +22,8 @@ plan_of touches k h = record { ceiling = ceiling k h (min_fetches h [] touches);
 -- How numbers and lists are judged, where so many held-key places are needed: k, then the list's length, then the places, then h.
 abbrev pub plan_answer : ℕ → ℕ → ℕ → ℕ → Places → Result (Unit {0}) Refusal
 plan_answer touches k h held p =
-    cond (nat_le 1 k && nat_le k 64)
-    (cond (nat_le touches most_touches)
+    cond (nat_le 1 k && nat_le k MAX_FRAMES)
+    (cond (nat_le touches MAX_TOUCHES)
     (cond (enough touches held p)
     (cond (nat_le 1 h && nat_le h k) (Ok tt) (Err SmallerFrameCount))
     (Err TooFewPlaces))

@@ -1,6 +1,7 @@
 // Which keys the frames hold: the index has a held key's frame, the held-key list a frame's key, by the place of a touch of it in
 // the list of touches. In MIN's schedule that is the key's latest touch, in the replay the one that fetched it.
 ghost use Rattle.std.specs.Prelude.{◌≡◌, ℕ, ◌+◌, ◌<◌, ◌≤◌, max, map, length, slice_index, slice_set};
+ghost use Rattle.base.specs.declared.limits.TheConstants.{MAX_FRAMES, MAX_TOUCHES};
 ghost use Rattle.policy.specs.Machine.{put};
 ghost use Rattle.index.specs.Slots.{map_of, SoundIndex};
 ghost use Rattle.planning.specs.Chosen.{HeldBelow};
@@ -23,7 +24,7 @@ impl<'a, K: Key> HeldKeys<'a, K> {
     // As many frames as the held-key list has places. None is filled, whatever the lists had. The frames never hold more keys than
     // there are frames, so the index takes only some of the slots where there are many, and only these are cleared.
     pub fn new(slots: &'a mut [Slot<K>], held: &'a mut [u32]) -> HeldKeys<'a, K>
-        requires { (1 ≤ length held.old) × (length held.old ≤ 64) }
+        requires { (1 ≤ length held.old) × (length held.old ≤ MAX_FRAMES) }
         ensures unfilled { Unfilled K.Key.code K.Key.spread result }
         ensures slots { SlotsFor (length slots.old) result }
         ensures held { result.held.now ≡ held.old }
@@ -46,7 +47,7 @@ impl<'a, K: Key> HeldKeys<'a, K> {
 
     // Notes a touch of the key that a frame holds, by its place in the list.
     pub fn touch(&mut self, frame: usize, place: usize)
-        requires { (frame < length self.old.held.now) × (place < 4096) }
+        requires { (frame < length self.old.held.now) × (place < MAX_TOUCHES) }
         ensures index { self.new.index ≡ self.old.index }
         ensures held { self.new.held.now ≡ slice_set self.old.held.now frame place }
         ensures filled { self.new.filled ≡ self.old.filled }
@@ -73,7 +74,8 @@ impl<'a, K: Key> HeldKeys<'a, K> {
     // Holds the key at a place of the list in a frame, filled or the next to fill; a key that the frame held is put out.
     pub fn hold(&mut self, keys: &[K], frame: usize, place: usize)
         requires sound { SoundIndex K.Key.code K.Key.spread self.old.index }
-        requires within { (frame < length self.old.held.now) × ((frame < 64) × ((place < length keys.now) × (place < 4096))) }
+        requires within { (frame < length self.old.held.now)
+            × ((frame < MAX_FRAMES) × ((place < length keys.now) × (place < MAX_TOUCHES))) }
         requires room { HasRoom K.Key.code keys.now self.old frame place }
         ensures sound { SoundIndex K.Key.code K.Key.spread self.new.index }
         ensures places { (map_of K.Key.code self.new.index).places ≡ (map_of K.Key.code self.old.index).places }

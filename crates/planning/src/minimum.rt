@@ -1,5 +1,6 @@
 // MIN's schedule: the frame that serves each touch, and how many touches are fetches.
 ghost use Rattle.std.specs.Prelude.{◌≡◌, ◌≤◌, [], ◌++◌, map, length, drop};
+ghost use Rattle.base.specs.declared.limits.TheConstants.{MAX_FRAMES, MAX_TOUCHES};
 ghost use Rattle.planning.specs.Chosen.{NextTouches};
 ghost use Rattle.planning.specs.Frames.{Unfilled, SlotsFor};
 ghost use Rattle.planning.specs.Minimum.{min_serves, min_fetches};
@@ -14,10 +15,10 @@ pub fn serve_touches<K: Key>(
     next: &[u32],
     serving: &mut [u8],
 ) -> u64
-    requires size { (1 ≤ length frames.old.held.now) × (length frames.old.held.now ≤ 64) }
+    requires size { (1 ≤ length frames.old.held.now) × (length frames.old.held.now ≤ MAX_FRAMES) }
     requires empty { Unfilled K.Key.code K.Key.spread frames.old }
     requires slots { SlotsFor (length keys.now) frames.old }
-    requires few { (length keys.now ≤ 4096) × ((length keys.now ≤ length next.now) × (length keys.now ≤ length serving.old)) }
+    requires few { (length keys.now ≤ MAX_TOUCHES) × ((length keys.now ≤ length next.now) × (length keys.now ≤ length serving.old)) }
     requires next { NextTouches K.Key.code keys.now next.now }
     ensures answer { result ≡ min_fetches (length frames.old.held.now) [] (map K.Key.code keys.now) }
     ensures serving { serving.new ≡ min_serves (length frames.old.held.now) [] (map K.Key.code keys.now)

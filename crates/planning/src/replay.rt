@@ -1,6 +1,7 @@
 // The replay of a list of keys by a policy: what the frame machine fetches.
 ghost use Rattle.std.specs.Prelude.{◌≡◌, ℕ, ◌≤◌, true, false, map, length, is_ok, Ok};
 ghost use Rattle.base.specs.Geometries.{frames_of};
+ghost use Rattle.base.specs.declared.limits.TheConstants.{MAX_FRAMES, MAX_TOUCHES};
 ghost use Rattle.policy.specs.Machine.{fetches};
 ghost use Rattle.policy.specs.Shape.{Running};
 ghost use Rattle.planning.specs.Frames.{Unfilled, SlotsFor};
@@ -27,11 +28,11 @@ fn check_lists(touches: usize, slots: usize, frames: usize, held: usize) -> Resu
 // Touches the keys one after another, and counts the fetches.
 fn count_fetches<P: Policy, K: Key>(policy: &mut P, keys: &[K], frames: &mut HeldKeys<'_, K>) -> u64
     requires runs { Running P.Policy.rules (P.Policy.rules.frames (P.Policy.model policy.old)) (idle (P.Policy.model policy.old)) }
-    requires places { (P.Policy.rules.frames (P.Policy.model policy.old) ≤ 64)
+    requires places { (P.Policy.rules.frames (P.Policy.model policy.old) ≤ MAX_FRAMES)
         × (P.Policy.rules.frames (P.Policy.model policy.old) ≡ length frames.old.held.now) }
     requires empty { Unfilled K.Key.code K.Key.spread frames.old }
     requires slots { SlotsFor (length keys.now) frames.old }
-    requires few { length keys.now ≤ 4096 }
+    requires few { length keys.now ≤ MAX_TOUCHES }
     ensures { result ≡ fetches P.Policy.rules (idle (P.Policy.model policy.old)) (map K.Key.code keys.now) }
 {
     let mut fetches = 0;

@@ -1,6 +1,7 @@
 // Planning: judges its numbers and lists, then runs MIN on the smaller number of frames.
 ghost use Rattle.std.specs.Prelude.{◌≡◌, ℕ, ◌<◌, ◌≤◌, false, [], ◌++◌, map, length, take, drop};
 ghost use Rattle.std.specs.Prelude.{is_ok, IfOk};
+ghost use Rattle.base.specs.declared.limits.TheConstants.{MAX_FRAMES, MAX_TOUCHES};
 ghost use Rattle.planning.specs.Bounds.{Optimal, ServingsAreSchedules};
 ghost use Rattle.planning.specs.Chosen.{NextTouches};
 ghost use Rattle.planning.specs.Minimum.{min_serves, min_fetches};
@@ -18,7 +19,7 @@ use index::Slot;
 // The ceiling on the fetches of so many frames, from the fetches of a schedule on a smaller number of frames.
 #[tactic(auto, using(crate::proofs::Plans::product_fits, crate::proofs::Plans::ceiling_fits))]
 fn ceiling(frames: u64, smaller: u64, fetches: u64) -> u64
-    requires { (smaller ≤ frames) × ((frames ≤ 64) × (fetches ≤ 4096)) }
+    requires { (smaller ≤ frames) × ((frames ≤ MAX_FRAMES) × (fetches ≤ MAX_TOUCHES)) }
     ensures { result ≡ ceiling_at frames smaller fetches }
 {
     frames * fetches / (frames - smaller + 1) + frames
@@ -59,8 +60,8 @@ fn run_min<K: Key>(
     held: &mut [u32],
     serving: &mut [u8],
 ) -> u64
-    requires frames { (1 ≤ frames) × ((frames ≤ 64) × (frames ≤ length held.old)) }
-    requires few { (length keys.now ≤ 4096) × ((length keys.now ≤ length slots.old)
+    requires frames { (1 ≤ frames) × ((frames ≤ MAX_FRAMES) × (frames ≤ length held.old)) }
+    requires few { (length keys.now ≤ MAX_TOUCHES) × ((length keys.now ≤ length slots.old)
         × ((length keys.now ≤ length next.now) × (length keys.now ≤ length serving.old))) }
     requires next { NextTouches K.Key.code keys.now next.now }
     ensures answer { result ≡ min_fetches frames [] (map K.Key.code keys.now) }
