@@ -1,6 +1,11 @@
--- A doubly linked list of frames, closed to a ring by a sentinel: number 64, which is no frame, stands before the first and
--- after the last. Assumes nothing.
-use Rattle.std.specs.Prelude.{ℕ, zero, suc, ◌≤◌, Bool, ◌&&◌, List, [], ◌∷◌, ◌==◌, slice_index, slice_set, replicate}
+-- A doubly linked list of frames, closed to a ring by a sentinel, which stands before the first and after the last.
+-- Assumes nothing.
+use Rattle.std.specs.Prelude.{ℕ, zero, suc, ◌+◌, ◌≤◌, Bool, ◌&&◌, List, [], ◌∷◌, ◌==◌, slice_index, slice_set, replicate}
+use Rattle.base.specs.declared.limits.TheConstants.{MAX_FRAMES}
+
+-- the sentinel's number, which is no frame's
+abbrev pub sentinel : ℕ
+sentinel = MAX_FRAMES
 
 -- For each frame and the sentinel, the one after it and the one before it.
 pub record Ring : Type 0 where
@@ -9,7 +14,7 @@ pub record Ring : Type 0 where
 
 -- each of an array's links leads to a frame or to the sentinel
 abbrev pub Leads : List ℕ → Type 0
-Leads links = (i : ℕ) → slice_index links i ≤ 64
+Leads links = (i : ℕ) → slice_index links i ≤ sentinel
 
 -- the n that come after p
 abbrev pub following : Ring → ℕ → ℕ → List ℕ
@@ -27,7 +32,7 @@ linked r p (x ∷ xs) q = neighbours r p x && linked r x xs q
 
 -- the sentinel alone: it comes after itself
 abbrev pub sentinel_alone : Ring
-sentinel_alone = record { next = replicate 65 64; previous = replicate 65 64 }
+sentinel_alone = record { next = replicate (MAX_FRAMES + 1) sentinel; previous = replicate (MAX_FRAMES + 1) sentinel }
 
 -- two made neighbours
 abbrev pub connected : Ring → ℕ → ℕ → Ring
@@ -39,4 +44,4 @@ unlinked r f = connected r (slice_index r.previous f) (slice_index r.next f)
 
 -- a frame put last: between the last so far and the sentinel
 abbrev pub appended : Ring → ℕ → Ring
-appended r f = connected (connected r (slice_index r.previous 64) f) f 64
+appended r f = connected (connected r (slice_index r.previous sentinel) f) f sentinel

@@ -1,5 +1,6 @@
 // FIFO: a place with all frames filled answers the frame whose place is the earliest.
 ghost use Rattle.std.specs.Prelude.{◌≡◌, ◌<◌, ◌≤◌};
+ghost use Rattle.base.specs.declared.limits.TheConstants.{MAX_FRAMES};
 
 mod calls;
 mod order;
@@ -11,7 +12,7 @@ pub struct Fifo {
     filled: usize,
     hand: usize,
     ghost some: { 1 ≤ size },
-    ghost most: { size ≤ 64 },
+    ghost most: { size ≤ MAX_FRAMES },
     ghost fits: { filled ≤ size },
     ghost within: { hand < size },
     // the hand leaves frame 0 only once all frames are filled

@@ -21,7 +21,8 @@ pub struct Links {
 
 impl Links {
     ghost use Rattle.std.specs.Prelude.{◌≡◌, ◌<◌, ◌≤◌, slice_index};
-    ghost use Rattle.policy.specs.LinkedList.{sentinel_alone, connected, unlinked, appended};
+    ghost use Rattle.base.specs.declared.limits.TheConstants.{MAX_FRAMES};
+    ghost use Rattle.policy.specs.LinkedList.{sentinel, sentinel_alone, connected, unlinked, appended};
     ghost use Rattle.policy.specs.Links.{ring};
 
     // The sentinel alone, which comes after itself.
@@ -36,14 +37,14 @@ impl Links {
 
     // The first frame, or the sentinel if there is none.
     pub(super) fn first(&self) -> u8
-        ensures { result ≡ slice_index self.now.next 64 }
+        ensures { result ≡ slice_index self.now.next sentinel }
     {
         self.next[SENTINEL as usize]
     }
 
     // Takes a frame out: the ones before and after it become neighbours.
     pub(super) fn unlink(&mut self, frame: u8)
-        requires { frame < 64 }
+        requires { frame < MAX_FRAMES }
         ensures { ring self.new ≡ unlinked (ring self.old) frame }
     {
         self.connect(self.previous[frame as usize], self.next[frame as usize]);
@@ -51,7 +52,7 @@ impl Links {
 
     // Puts a frame last: between the last so far and the sentinel.
     pub(super) fn append(&mut self, frame: u8)
-        requires { frame < 64 }
+        requires { frame < MAX_FRAMES }
         ensures { ring self.new ≡ appended (ring self.old) frame }
     {
         self.connect(self.previous[SENTINEL as usize], frame);
@@ -60,8 +61,8 @@ impl Links {
 
     // Makes two neighbours.
     fn connect(&mut self, before: u8, after: u8)
-        requires before { before ≤ 64 }
-        requires after { after ≤ 64 }
+        requires before { before ≤ sentinel }
+        requires after { after ≤ sentinel }
         ensures { ring self.new ≡ connected (ring self.old) before after }
     {
         self.next[before as usize] = after;

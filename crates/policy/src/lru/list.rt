@@ -1,7 +1,8 @@
 // A doubly linked list of frames, each at most once. A call takes the same few steps wherever in the list the frame stands.
 ghost use Rattle.std.specs.Prelude.{◌≡◌, ℕ, ◌+◌, ◌≤◌, ◌∷◌, true};
 ghost use Rattle.base.specs.Lists.{distinct};
-ghost use Rattle.policy.specs.LinkedList.{linked, following};
+ghost use Rattle.base.specs.declared.limits.TheConstants.{MAX_FRAMES};
+ghost use Rattle.policy.specs.LinkedList.{sentinel, linked, following};
 ghost use Rattle.policy.specs.Links.{ring};
 
 use super::links::Links;
@@ -10,11 +11,11 @@ use super::links::Links;
 pub struct FrameList {
     len: usize,
     links: Links,
-    ghost fits: { len ≤ 64 },
+    ghost fits: { len ≤ MAX_FRAMES },
     // the frames after the sentinel are linked to each other, and the last of them to the sentinel again
-    ghost closed: { linked (ring links) 64 (following (ring links) 64 len) 64 ≡ true },
+    ghost closed: { linked (ring links) sentinel (following (ring links) sentinel len) sentinel ≡ true },
     // they and the sentinel are all different
-    ghost once: { distinct (64 ∷ following (ring links) 64 len) ≡ len + 1 },
+    ghost once: { distinct (sentinel ∷ following (ring links) sentinel len) ≡ len + 1 },
 }
 
 impl FrameList {
@@ -49,9 +50,9 @@ impl FrameList {
 
     // Puts a new frame at the end.
     pub(super) fn push(&mut self, frame: usize)
-        requires low { frame < 64 }
+        requires low { frame < MAX_FRAMES }
         requires new { member frame (frames_in self.old) ≡ false }
-        requires room { length (frames_in self.old) < 64 }
+        requires room { length (frames_in self.old) < MAX_FRAMES }
         ensures { frames_in self.new ≡ frames_in self.old ++ (frame ∷ []) }
     {
         self.links.append(frame as u8);
@@ -60,7 +61,7 @@ impl FrameList {
 
     // Takes a frame out.
     pub(super) fn remove(&mut self, frame: usize)
-        requires low { frame < 64 }
+        requires low { frame < MAX_FRAMES }
         requires has { member frame (frames_in self.old) ≡ true }
         ensures { frames_in self.new ≡ without frame (frames_in self.old) }
     {
