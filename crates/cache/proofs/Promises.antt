@@ -1,11 +1,11 @@
 -- What a cache has taken keeps the promise.
 use Rattle.std.proofs.Common.{◌≡◌, ℕ, ◌+◌, ◌-◌, ◌*◌, ◌≤◌, true, List, [], length, Ok, refl, mul-le-mul_left, arith}
 use Rattle.std.proofs.lemmas.Bool.{le-leb}
+use Rattle.base.specs.declared.limits.TheConstants.{MAX_FRAMES, MAX_TOUCHES}
 use Rattle.policy.specs.Machine.{Rules, start, fetches}
 use Rattle.policy.specs.Law.{Conservative}
 use Rattle.planning.specs.Schedules.{Demand}
 use Rattle.planning.specs.Minimum.{min_fetches}
-use Rattle.planning.specs.Replay.{most_touches}
 use Rattle.planning.specs.declared.lists.Places.{Places}
 use Rattle.planning.specs.Lists.{enough}
 use Rattle.planning.specs.Plan.{planning_of, planned}
@@ -16,11 +16,11 @@ use Rattle.cache.specs.Promise.{Origin, Taken, Promise, touches, machine_fetches
 use Rattle.cache.proofs.Takings.{facts_of}
 
 -- planning in lists with enough places is not refused
-plan_accepted : (ts : List ℕ) (k h : ℕ) (places : Places) → 1 ≤ k → k ≤ 64 → length ts ≤ most_touches → 1 ≤ h → h ≤ k →
+plan_accepted : (ts : List ℕ) (k h : ℕ) (places : Places) → 1 ≤ k → k ≤ MAX_FRAMES → length ts ≤ MAX_TOUCHES → 1 ≤ h → h ≤ k →
     enough (length ts) h places ≡ true →
     planned ts k h places ≡ Ok (planning_of ts k h)
 plan_accepted ts k h places some most few one fits room =
-    rw (le-leb 1 k some, le-leb k 64 most, le-leb (length ts) most_touches few, room, le-leb 1 h one, le-leb h k fits)
+    rw (le-leb 1 k some, le-leb k MAX_FRAMES most, le-leb (length ts) MAX_TOUCHES few, room, le-leb 1 h one, le-leb h k fits)
 
 module _ {Setting State : Type 0} (r : Rules Setting State) (law : Conservative r) where
   -- the bound for a count that is at most the machine's

@@ -1,12 +1,12 @@
 -- The promise: what holds of all the turns that a cache has taken since its start. Assumes nothing.
 use Rattle.std.specs.Prelude.{◌≡◌, ℕ, ◌+◌, ◌-◌, ◌*◌, ◌≤◌, min, true, List, [], ◌∷◌, ◌++◌, length, Ok}
+use Rattle.base.specs.declared.limits.TheConstants.{MAX_FRAMES, MAX_TOUCHES}
 use Rattle.disk.specs.Meaning.{Meaning, largest_tally}
 use Rattle.policy.specs.Machine.{Rules, start, fetches}
 use Rattle.planning.specs.declared.lists.Places.{Places}
 use Rattle.planning.specs.declared.plan.Plan.{Plan}
 use Rattle.planning.specs.Schedules.{Demand}
 use Rattle.planning.specs.Bounds.{Optimal}
-use Rattle.planning.specs.Replay.{most_touches}
 use Rattle.planning.specs.Lists.{enough}
 use Rattle.planning.specs.Plan.{Planning, planned, ceiling}
 use Rattle.cache.specs.Places.{pins, dirty, framed}
@@ -38,10 +38,10 @@ module _ {Setting State : Type 0} (o : Origin Setting State) where
   touches es = touches_of alone (pins o.cache.store) (all_asked es)
 
 module _ {Setting State : Type 0} (r : Rules Setting State) (o : Origin Setting State) where
-  -- A cache at its start: 1 to 64 frames, none of them filled, the policy in its first state, nothing dirty or served, and F at 0.
+  -- A cache at its start: 1 to MAX_FRAMES frames, none of them filled, the policy in its first state, nothing dirty or served, and F at 0.
   pub record Begun : Type 0 where
     pub some : 1 ≤ o.frames
-    pub most : o.frames ≤ 64
+    pub most : o.frames ≤ MAX_FRAMES
     pub first : o.cache.policy ≡ r.first o.setting o.frames
     pub unfilled : framed o.cache.store ≡ []
     pub clean : dirty o.cache.store ≡ []
@@ -81,5 +81,5 @@ module _ {Setting State : Type 0} (r : Rules Setting State) (o : Origin Setting 
     pub bound : (h d : ℕ) → 1 ≤ h → h ≤ o.frames → Demand h [] (touches o es) d →
         (o.frames - h + 1) * v.fetched ≤ o.frames * d + o.frames * (o.frames - h + 1)
     -- planning on the touches
-    pub plans : length (touches o es) ≤ most_touches → (h : ℕ) → 1 ≤ h → h ≤ o.frames → (places : Places) →
+    pub plans : length (touches o es) ≤ MAX_TOUCHES → (h : ℕ) → 1 ≤ h → h ≤ o.frames → (places : Places) →
         enough (length (touches o es)) h places ≡ true → Planned (touches o es) o.frames h places v.fetched

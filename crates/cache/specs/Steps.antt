@@ -1,5 +1,6 @@
 -- What the parts of a turn do to a cache. Assumes nothing.
 use Rattle.std.specs.Prelude.{ℕ, ◌+◌, ◌-◌, cond, List, Ok, Err, Result, nat_lt}
+use Rattle.base.specs.declared.limits.TheConstants.{SECTOR_BYTES}
 use Rattle.base.specs.declared.refusal.Refusal.{Refusal}
 use Rattle.disk.specs.Meaning.{raised, serves, read_one, written_one}
 use Rattle.base.specs.Lists.{member, place_in}
@@ -55,7 +56,7 @@ module _ {Setting State : Type 0} (r : Rules Setting State) where
 
   abbrev pub touched_view : View State → ℕ → View State
   touched_view v x = cond (member x (held v.store)) (used_view v (place_in x (held v.store)))
-      (cond (serves v.below x 512) (fetched_view v x) v)
+      (cond (serves v.below x SECTOR_BYTES) (fetched_view v x) v)
 
   -- a request with a buffer of so many bytes: an access where it is served, and nothing where it is refused
   abbrev pub judged_view : View State → ℕ → ℕ → View State

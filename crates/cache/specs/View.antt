@@ -2,6 +2,7 @@
 use Rattle.std.specs.Prelude.{◌≡◌, ℕ, ◌+◌, ◌<◌, ◌≤◌, Bool, false, cond, List, length}
 use Rattle.disk.specs.Meaning.{Meaning, Sized, Tallied}
 use Rattle.base.specs.Lists.{member, place_in}
+use Rattle.base.specs.declared.limits.TheConstants.{MAX_FRAMES, MAX_PINS, SECTOR_BYTES}
 use Rattle.policy.specs.Machine.{Rules, Machine}
 use Rattle.policy.specs.Shape.{Reached}
 use Rattle.cache.specs.declared.store.Store.{Store}
@@ -31,18 +32,18 @@ machine v = record { policy = v.policy; keys = framed v.store }
 -- what holds of a store over a disk of so many sectors, with these dead and these bytes
 pub record Holding (count : ℕ) (dead : ℕ → Bool) (bytes : ℕ → List ℕ) (s : Store) : Type 0 where
   pub apart : HeldOnce s
-  -- what is held is a live sector of the disk, of 512 bytes
+  -- what is held is a live sector of the disk, SECTOR_BYTES long
   pub inside : (i : ℕ) → i < used s → (place_at s i).sector < count
   pub live : (i : ℕ) → i < used s → dead (place_at s i).sector ≡ false
-  pub sized : (i : ℕ) → i < used s → length (place_at s i).block ≡ 512
+  pub sized : (i : ℕ) → i < used s → length (place_at s i).block ≡ SECTOR_BYTES
   -- a clean place has the disk's bytes
   pub clean : (i : ℕ) → i < used s → (place_at s i).dirty ≡ false → (place_at s i).block ≡ bytes (place_at s i).sector
 
 -- what holds of a policy beside a store with so many pinned sectors and so many places in use
 pub record Placing {Setting State : Type 0} (r : Rules Setting State) (policy : State) (pinned in_use : ℕ) : Type 0 where
   pub reached : Reached r policy
-  pub most : r.frames policy ≤ 64
-  pub few : pinned ≤ 8
+  pub most : r.frames policy ≤ MAX_FRAMES
+  pub few : pinned ≤ MAX_PINS
   pub filled : r.filled policy + pinned ≡ in_use
 
 -- what holds of a cache between calls

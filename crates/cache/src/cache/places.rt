@@ -1,5 +1,6 @@
 // Which place of the cache a turn works on: found, or fetched from below.
 ghost use Rattle.std.specs.Prelude.{◌≡◌, ℕ, ◌<◌, ◌≤◌, true, false, length, if◌then◌else◌};
+ghost use Rattle.base.specs.declared.limits.TheConstants.{SECTOR_BYTES};
 ghost use Rattle.disk.specs.Meaning.{answer, serves};
 ghost use Rattle.cache.specs.Places.{used, place_at};
 ghost use Rattle.cache.specs.Steps.{read_view, write_view, backed_view, fetched_view, touched_view, judged_view};
@@ -33,9 +34,9 @@ impl<D: Disk, P: Policy> Cache<D, P> {
     fn fetch(&mut self, sector: u32) -> Result<usize, Refusal>
         requires { Safe D.Disk P.Policy self.old }
         ensures under { D.Disk.sound self.new.below }
-        ensures answers { result ≡ with_place (answer (D.Disk.meaning self.old.below) sector 512)
+        ensures answers { result ≡ with_place (answer (D.Disk.meaning self.old.below) sector SECTOR_BYTES)
             (next_place P.Policy.rules (view D.Disk P.Policy self.old)) }
-        ensures after { view D.Disk P.Policy self.new ≡ (if serves (D.Disk.meaning self.old.below) sector 512
+        ensures after { view D.Disk P.Policy self.new ≡ (if serves (D.Disk.meaning self.old.below) sector SECTOR_BYTES
             then fetched_view P.Policy.rules (view D.Disk P.Policy self.old) sector
             else view D.Disk P.Policy self.old) }
     {
@@ -55,7 +56,7 @@ impl<D: Disk, P: Policy> Cache<D, P> {
     fn touch(&mut self, sector: u32) -> Result<usize, Refusal>
         requires { Safe D.Disk P.Policy self.old }
         ensures under { D.Disk.sound self.new.below }
-        ensures answers { result ≡ with_place (answer (D.Disk.meaning self.old.below) sector 512)
+        ensures answers { result ≡ with_place (answer (D.Disk.meaning self.old.below) sector SECTOR_BYTES)
             (place_of P.Policy.rules (view D.Disk P.Policy self.old) sector) }
         ensures after { view D.Disk P.Policy self.new ≡ touched_view P.Policy.rules (view D.Disk P.Policy self.old) sector }
     {
@@ -86,7 +87,7 @@ impl<D: Disk, P: Policy> Cache<D, P> {
 
     // Serves a read from a place.
     pub(crate) fn serve_read(&mut self, place: usize, buffer: &mut [u8])
-        requires within { (place < used self.old.store) × (length buffer.old ≡ 512) }
+        requires within { (place < used self.old.store) × (length buffer.old ≡ SECTOR_BYTES) }
         requires under { D.Disk.sound self.old.below }
         ensures under { D.Disk.sound self.new.below }
         ensures after { view D.Disk P.Policy self.new ≡ read_view (view D.Disk P.Policy self.old) }
@@ -98,7 +99,7 @@ impl<D: Disk, P: Policy> Cache<D, P> {
 
     // Serves a write into a place, which is dirty from then on.
     pub(crate) fn serve_write(&mut self, place: usize, buffer: &[u8])
-        requires within { (place < used self.old.store) × (length buffer.now ≡ 512) }
+        requires within { (place < used self.old.store) × (length buffer.now ≡ SECTOR_BYTES) }
         requires under { D.Disk.sound self.old.below }
         ensures under { D.Disk.sound self.new.below }
         ensures after { view D.Disk P.Policy self.new ≡ write_view (view D.Disk P.Policy self.old) place buffer.now }

@@ -1,7 +1,9 @@
 // What is done to the places of a store.
 ghost use Rattle.std.specs.Prelude.{◌≡◌, ◌<◌, ◌≤◌, [], length};
 ghost use Rattle.base.specs.Lists.{found_in};
+ghost use Rattle.base.specs.declared.limits.TheConstants.{SECTOR_BYTES};
 ghost use Rattle.cache.specs.Places.{HeldOnce, used, place_at, held, stored, installed, pinned_in, cleaned};
+ghost use Rattle.cache.specs.declared.store.TheConstants.{MAX_PLACES};
 
 use super::{Place, Store};
 use arrayvec::ArrayVec;
@@ -28,14 +30,14 @@ impl Store {
     // The place that holds a sector: the only one, whatever the order of the search.
     pub fn find(&self, sector: u32) -> Option<usize>
         requires once { HeldOnce self.now }
-        requires within { used self.now ≤ 72 }
+        requires within { used self.now ≤ MAX_PLACES }
         ensures { result ≡ found_in sector (held self.now) }
     {
         self.places.iter().position(|place| place.sector == sector)
     }
 
     pub fn copy_out(&self, place: usize, buffer: &mut [u8])
-        requires { (place < used self.now) × (length buffer.old ≡ 512) }
+        requires { (place < used self.now) × (length buffer.old ≡ SECTOR_BYTES) }
         ensures { buffer.new ≡ (place_at self.now place).block }
     {
         buffer.copy_from_slice(&self.places[place].block);
@@ -43,7 +45,7 @@ impl Store {
 
     // The place is dirty from then on.
     pub fn copy_in(&mut self, place: usize, buffer: &[u8])
-        requires { (place < used self.old) × (length buffer.now ≡ 512) }
+        requires { (place < used self.old) × (length buffer.now ≡ SECTOR_BYTES) }
         ensures { self.new ≡ stored self.old place buffer.now }
     {
         let place = &mut self.places[place];
@@ -53,7 +55,7 @@ impl Store {
 
     // Gives a place, one in use or the next, to a sector with its bytes, clean.
     pub fn install(&mut self, place: usize, sector: u32, block: [u8; SECTOR_BYTES])
-        requires { (place < 72) × (place ≤ used self.old) }
+        requires { (place < MAX_PLACES) × (place ≤ used self.old) }
         ensures { self.new ≡ installed self.old place sector block }
     {
         let clean = Place {
@@ -70,7 +72,7 @@ impl Store {
 
     // Gives the next place to a sector that stays there; no frame is filled yet.
     pub fn pin(&mut self, sector: u32, block: [u8; SECTOR_BYTES])
-        requires { (used self.old < 72) × (self.old.pinned ≤ used self.old) }
+        requires { (used self.old < MAX_PLACES) × (self.old.pinned ≤ used self.old) }
         ensures { self.new ≡ pinned_in self.old sector block }
     {
         self.install(self.used(), sector, block);
