@@ -93,6 +93,26 @@ module _ {Setting State : Type 0} (r : Rules Setting State) (shape : Shape r) wh
     pub clean : p < in_use w.store → (place_at w.store p).dirty ≡ false
     pub dirty : (y : ℕ) → (is_dirty w.store y && not (has_sector w.store p y)) ≡ (is_dirty v.store y && not (has_sector v.store p y))
 
+  -- where nothing is written below
+  vacated_same : (v : View State) (p x : ℕ) → Sound r v →
+      v.below ≡ cond (ltb p (in_use v.store) && (place_at v.store p).dirty)
+      (written_one v.below (place_at v.store p).sector (place_at v.store p).block) v.below →
+      (p < in_use v.store → (place_at v.store p).dirty ≡ false) → Vacated v v p x
+  vacated_same v p x s below clean = record {
+    sound = s;
+    shows = refl;
+    policy = refl;
+    holds = refl;
+    pinned = refl;
+    count = refl;
+    dead = refl;
+    bytes = refl;
+    fetched = refl;
+    below = below;
+    clean = clean;
+    dirty = λ y. refl;
+  }
+
   pub vacated_is : (v : View State) (p x : ℕ) → Sound r v → Absent v.store x → Vacated v (vacated_view v p) p x
   vacated_is v p x s none = elim (cases_Bool (ltb p (in_use v.store))) [
     | inl e ↦ elim (cases_Bool (place_at v.store p).dirty) [
@@ -115,39 +135,9 @@ module _ {Setting State : Type 0} (r : Rules Setting State) (shape : Shape r) wh
         bytes = replaced_other v.below.bytes _ x _ (λ k. none p low (sym k));
         clean = λ h. cleaned_at v.store p low;
       })
-      | inr d ↦
-          rw (
-            e,
-            d,
-          ) (record {
-            sound = s;
-            shows = refl;
-            policy = refl;
-            holds = refl;
-            pinned = refl;
-            count = refl;
-            dead = refl;
-            bytes = refl;
-            fetched = refl;
-            below = rw (e, d);
-            clean = λ h. d;
-            dirty = λ y. refl;
-          })
+      | inr d ↦ rw (e, d) (vacated_same v p x s (rw (e, d)) (λ h. d))
     ]
-    | inr e ↦ rw e (record {
-      sound = s;
-      shows = refl;
-      policy = refl;
-      holds = refl;
-      pinned = refl;
-      count = refl;
-      dead = refl;
-      bytes = refl;
-      fetched = refl;
-      below = rw e;
-      clean = λ h. let q = ltb-false p (in_use v.store) e in absurd (omega arith);
-      dirty = λ y. refl;
-    })
+    | inr e ↦ rw e (vacated_same v p x s (rw e) (λ h. let q = ltb-false p (in_use v.store) e in absurd (omega arith)))
   ]
 
   -- a sector x that is not held, live below, put at place p, which is clean or the next
