@@ -1,6 +1,11 @@
 -- Codes of keys, and how a code is spread over 32 bits. Assumes nothing.
-use Rattle.std.specs.Prelude.{ℕ, ◌+◌, ◌*◌, ◌/◌, ◌%◌, ◌^◌}
+use Rattle.std.specs.Prelude.{ℕ, ◌+◌, ◌*◌, ◌/◌, ◌%◌, ◌^◌, List, map}
+use Rattle.base.specs.declared.key.Key as keys
 use Rattle.base.specs.declared.key.volume.VolumeKey.{VolumeKey}
+
+-- the codes of a list of keys, by which definitions speak of it
+abbrev pub codes_of : {K : Type 0} → keys.Ghosts K → List K → List ℕ
+codes_of k list = map k.code list
 
 -- the upper half of the code's product with an odd constant, modulo 2 ^ 64
 unfoldable pub mixed : ℕ → ℕ

@@ -1,6 +1,7 @@
 // Which keys the frames hold: the index has a held key's frame, the held-key list a frame's key, by the place of a touch of it in
 // the list of touches. In MIN's schedule that is the key's latest touch, in the replay the one that fetched it.
-ghost use Rattle.std.specs.Prelude.{◌≡◌, ℕ, ◌+◌, ◌<◌, ◌≤◌, max, map, length, slice_index, slice_set};
+ghost use Rattle.std.specs.Prelude.{◌≡◌, ℕ, ◌+◌, ◌<◌, ◌≤◌, max, length, slice_index, slice_set};
+ghost use Rattle.base.specs.Keys.{codes_of};
 ghost use Rattle.base.specs.declared.limits.TheConstants.{MAX_FRAMES, MAX_TOUCHES};
 ghost use Rattle.policy.specs.Machine.{put};
 ghost use Rattle.index.specs.Slots.{map_of, SoundIndex};
@@ -82,7 +83,7 @@ impl<'a, K: Key> HeldKeys<'a, K> {
         ensures held { self.new.held.now ≡ slice_set self.old.held.now frame place }
         ensures filled { self.new.filled ≡ max self.old.filled (frame + 1) }
         ensures holds { Holds K.Key.code keys.now self.new
-            (put (held_codes K.Key.code keys.now self.old) frame (slice_index (map K.Key.code keys.now) place)) }
+            (put (held_codes K.Key.code keys.now self.old) frame (slice_index (codes_of K.Key keys.now) place)) }
     {
         self.put_out(keys, frame);
         // The key is new and there is a slot for it, so the index takes it.

@@ -1,5 +1,6 @@
 // MIN's schedule: the frame that serves each touch, and how many touches are fetches.
-ghost use Rattle.std.specs.Prelude.{◌≡◌, ◌≤◌, [], ◌++◌, map, length, drop};
+ghost use Rattle.std.specs.Prelude.{◌≡◌, ◌≤◌, [], ◌++◌, length, drop};
+ghost use Rattle.base.specs.Keys.{codes_of};
 ghost use Rattle.base.specs.declared.limits.TheConstants.{MAX_FRAMES, MAX_TOUCHES};
 ghost use Rattle.planning.specs.Chosen.{NextTouches};
 ghost use Rattle.planning.specs.Frames.{Unfilled, SlotsFor};
@@ -20,8 +21,8 @@ pub fn serve_touches<K: Key>(
     requires slots { SlotsFor (length keys.now) frames.old }
     requires few { (length keys.now ≤ MAX_TOUCHES) × ((length keys.now ≤ length next.now) × (length keys.now ≤ length serving.old)) }
     requires next { NextTouches K.Key.code keys.now next.now }
-    ensures answer { result ≡ min_fetches (length frames.old.held.now) [] (map K.Key.code keys.now) }
-    ensures serving { serving.new ≡ min_serves (length frames.old.held.now) [] (map K.Key.code keys.now)
+    ensures answer { result ≡ min_fetches (length frames.old.held.now) [] (codes_of K.Key keys.now) }
+    ensures serving { serving.new ≡ min_serves (length frames.old.held.now) [] (codes_of K.Key keys.now)
         ++ drop (length keys.now) serving.old }
 {
     let mut fetches = 0;

@@ -1,5 +1,6 @@
 // The replay of a list of keys by a policy: what the frame machine fetches.
-ghost use Rattle.std.specs.Prelude.{◌≡◌, ℕ, ◌≤◌, true, false, map, length, is_ok, Ok};
+ghost use Rattle.std.specs.Prelude.{◌≡◌, ℕ, ◌≤◌, true, false, length, is_ok, Ok};
+ghost use Rattle.base.specs.Keys.{codes_of};
 ghost use Rattle.base.specs.Geometries.{frames_of};
 ghost use Rattle.base.specs.declared.limits.TheConstants.{MAX_FRAMES, MAX_TOUCHES};
 ghost use Rattle.policy.specs.Machine.{fetches};
@@ -33,7 +34,7 @@ fn count_fetches<P: Policy, K: Key>(policy: &mut P, keys: &[K], frames: &mut Hel
     requires empty { Unfilled K.Key.code K.Key.spread frames.old }
     requires slots { SlotsFor (length keys.now) frames.old }
     requires few { length keys.now ≤ MAX_TOUCHES }
-    ensures { result ≡ fetches P.Policy.rules (idle (P.Policy.model policy.old)) (map K.Key.code keys.now) }
+    ensures { result ≡ fetches P.Policy.rules (idle (P.Policy.model policy.old)) (codes_of K.Key keys.now) }
 {
     let mut fetches = 0;
     for (place, key) in keys.iter().enumerate() {
@@ -59,7 +60,7 @@ pub fn replay<P: Policy + Drop, K: Key>(
 ) -> Result<u64, Refusal>
 where
     P::Setting: Drop,
-    ensures answer { result ≡ replayed P.Policy.rules setting (frames_of geometry.now) (map K.Key.code keys.now)
+    ensures answer { result ≡ replayed P.Policy.rules setting (frames_of geometry.now) (codes_of K.Key keys.now)
         (length slots.old) (length held.old) }
     ensures slots { is_ok result ≡ false → slots.new ≡ slots.old }
     ensures held { is_ok result ≡ false → held.new ≡ held.old }

@@ -1,6 +1,7 @@
 // Plan and replay together.
-ghost use Rattle.std.specs.Prelude.{◌≡◌, ℕ, ◌<◌, ◌≤◌, false, map, length, take};
+ghost use Rattle.std.specs.Prelude.{◌≡◌, ℕ, ◌<◌, ◌≤◌, false, length, take};
 ghost use Rattle.std.specs.Prelude.{is_ok, IfOk};
+ghost use Rattle.base.specs.Keys.{codes_of};
 ghost use Rattle.planning.specs.Bounds.{Competitive, ForecastHolds};
 ghost use Rattle.planning.specs.Lists.{places, Unchanged, SameLists};
 ghost use Rattle.planning.specs.Plan.{forecasted, answer_of, serving_after};
@@ -24,11 +25,11 @@ pub fn forecast_touches<P: Policy + Drop, K: Key>(
 where
     P::Setting: Drop,
     ensures answer { result ≡ answer_of
-        (forecasted P.Policy.rules setting (map K.Key.code keys.now) frames smaller (places lists.old)) }
+        (forecasted P.Policy.rules setting (codes_of K.Key keys.now) frames smaller (places lists.old)) }
     ensures serving { lists.new.serving.now ≡ serving_after
-        (forecasted P.Policy.rules setting (map K.Key.code keys.now) frames smaller (places lists.old)) lists.old.serving.now }
+        (forecasted P.Policy.rules setting (codes_of K.Key keys.now) frames smaller (places lists.old)) lists.old.serving.now }
     ensures bounded { IfOk result (λ f.
-        ForecastHolds frames smaller (map K.Key.code keys.now) (take (length keys.now) lists.new.serving.now)
+        ForecastHolds frames smaller (codes_of K.Key keys.now) (take (length keys.now) lists.new.serving.now)
         f.plan.fetches f.plan.ceiling f.fetches) }
     ensures competitive { Competitive P.Policy.rules }
     ensures refused { is_ok result ≡ false → Unchanged lists.old lists.new }

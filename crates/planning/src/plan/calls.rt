@@ -1,6 +1,7 @@
 // Planning: judges its numbers and lists, then runs MIN on the smaller number of frames.
-ghost use Rattle.std.specs.Prelude.{◌≡◌, ℕ, ◌<◌, ◌≤◌, false, [], ◌++◌, map, length, take, drop};
+ghost use Rattle.std.specs.Prelude.{◌≡◌, ℕ, ◌<◌, ◌≤◌, false, [], ◌++◌, length, take, drop};
 ghost use Rattle.std.specs.Prelude.{is_ok, IfOk};
+ghost use Rattle.base.specs.Keys.{codes_of};
 ghost use Rattle.base.specs.declared.limits.TheConstants.{MAX_FRAMES, MAX_TOUCHES};
 ghost use Rattle.planning.specs.Bounds.{Optimal, ServingsAreSchedules};
 ghost use Rattle.planning.specs.Chosen.{NextTouches};
@@ -64,8 +65,8 @@ fn run_min<K: Key>(
     requires few { (length keys.now ≤ MAX_TOUCHES) × ((length keys.now ≤ length slots.old)
         × ((length keys.now ≤ length next.now) × (length keys.now ≤ length serving.old))) }
     requires next { NextTouches K.Key.code keys.now next.now }
-    ensures answer { result ≡ min_fetches frames [] (map K.Key.code keys.now) }
-    ensures serving { serving.new ≡ min_serves frames [] (map K.Key.code keys.now) ++ drop (length keys.now) serving.old }
+    ensures answer { result ≡ min_fetches frames [] (codes_of K.Key keys.now) }
+    ensures serving { serving.new ≡ min_serves frames [] (codes_of K.Key keys.now) ++ drop (length keys.now) serving.old }
 {
     let mut keys_held = HeldKeys::new(slots, &mut held[..frames]);
     serve_touches(keys, &mut keys_held, next, serving)
@@ -78,11 +79,11 @@ pub fn plan_touches<K: Key>(
     smaller: usize,
     lists: &mut Lists<'_, K>,
 ) -> Result<Plan, Refusal>
-    ensures answer { result ≡ answer_of (planned (map K.Key.code keys.now) frames smaller (places lists.old)) }
+    ensures answer { result ≡ answer_of (planned (codes_of K.Key keys.now) frames smaller (places lists.old)) }
     ensures serving { lists.new.serving.now
-        ≡ serving_after (planned (map K.Key.code keys.now) frames smaller (places lists.old)) lists.old.serving.now }
+        ≡ serving_after (planned (codes_of K.Key keys.now) frames smaller (places lists.old)) lists.old.serving.now }
     ensures optimal { IfOk result (λ p.
-        Optimal smaller (map K.Key.code keys.now) (take (length keys.now) lists.new.serving.now) p.fetches) }
+        Optimal smaller (codes_of K.Key keys.now) (take (length keys.now) lists.new.serving.now) p.fetches) }
     ensures schedules { ServingsAreSchedules }
     ensures refused { is_ok result ≡ false → Unchanged lists.old lists.new }
     ensures same { SameLists lists.old lists.new }

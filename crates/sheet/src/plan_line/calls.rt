@@ -1,5 +1,6 @@
 // What a plan's line has, from a list of keys and from the text of a trace.
-ghost use Rattle.std.specs.Prelude.{◌≡◌, false, map, length, take, is_ok, IfOk};
+ghost use Rattle.std.specs.Prelude.{◌≡◌, false, length, take, is_ok, IfOk};
+ghost use Rattle.base.specs.Keys.{codes_of};
 ghost use Rattle.trace.specs.Touches.{judged, Written};
 ghost use Rattle.planning.specs.Plan.{answer_of, serving_after};
 ghost use Rattle.planning.specs.Lists.{places, Unchanged, SameLists};
@@ -19,11 +20,11 @@ pub fn plan_of_keys<K: Key>(
     smaller: usize,
     lists: &mut Lists<'_, K>,
 ) -> Result<PlanLine, Refusal>
-    ensures answer { result ≡ answer_of (lined (map K.Key.code keys.now) frames smaller (places lists.old)) }
+    ensures answer { result ≡ answer_of (lined (codes_of K.Key keys.now) frames smaller (places lists.old)) }
     ensures serving { lists.new.serving.now
-        ≡ serving_after (lined (map K.Key.code keys.now) frames smaller (places lists.old)) lists.old.serving.now }
+        ≡ serving_after (lined (codes_of K.Key keys.now) frames smaller (places lists.old)) lists.old.serving.now }
     ensures bounded { IfOk result (λ line.
-        WithinCeiling line (map K.Key.code keys.now) (take (length keys.now) lists.new.serving.now)) }
+        WithinCeiling line (codes_of K.Key keys.now) (take (length keys.now) lists.new.serving.now)) }
     ensures refused { is_ok result ≡ false → Unchanged lists.old lists.new }
     ensures same { SameLists lists.old lists.new }
 {

@@ -1,5 +1,6 @@
 // What a row counts.
-ghost use Rattle.std.specs.Prelude.{◌≡◌, ◌≤◌, [], map, length};
+ghost use Rattle.std.specs.Prelude.{◌≡◌, ◌≤◌, [], length};
+ghost use Rattle.base.specs.Keys.{codes_of};
 ghost use Rattle.base.specs.Geometries.{frames_of};
 ghost use Rattle.planning.specs.Lists.{SameLists};
 ghost use Rattle.planning.specs.Minimum.{min_fetches};
@@ -14,8 +15,8 @@ use policy::{Clock, Fifo, Lru};
 fn fewest_of_keys<K: Key>(frames: usize, keys: &[K], lists: &mut Lists<'_, K>) -> u64
     requires frames { (1 ≤ frames) × (frames ≤ MAX_FRAMES) }
     requires roomy { Roomy (length keys.now) lists.old }
-    ensures count { result ≡ min_fetches frames [] (map K.Key.code keys.now) }
-    ensures serving { lists.new.serving.now ≡ served frames (map K.Key.code keys.now) lists.old.serving.now }
+    ensures count { result ≡ min_fetches frames [] (codes_of K.Key keys.now) }
+    ensures serving { lists.new.serving.now ≡ served frames (codes_of K.Key keys.now) lists.old.serving.now }
     ensures same { SameLists lists.old lists.new }
 {
     plan_touches(keys, frames, frames, lists).unwrap().fetches
@@ -24,8 +25,8 @@ fn fewest_of_keys<K: Key>(frames: usize, keys: &[K], lists: &mut Lists<'_, K>) -
 // The fetches of each policy on the geometry's frames, and of MIN on as many. The lists have enough places, so nothing is refused.
 pub(crate) fn row_of_keys<K: Key>(geometry: &Geometry, keys: &[K], lists: &mut Lists<'_, K>) -> Row
     requires { Roomy (length keys.now) lists.old }
-    ensures counts { result ≡ row_of (map K.Key.code keys.now) (frames_of geometry.now) }
-    ensures serving { lists.new.serving.now ≡ served (frames_of geometry.now) (map K.Key.code keys.now) lists.old.serving.now }
+    ensures counts { result ≡ row_of (codes_of K.Key keys.now) (frames_of geometry.now) }
+    ensures serving { lists.new.serving.now ≡ served (frames_of geometry.now) (codes_of K.Key keys.now) lists.old.serving.now }
     ensures same { SameLists lists.old lists.new }
 {
     let frames = geometry.frames();
