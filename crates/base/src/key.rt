@@ -1,5 +1,5 @@
 // Keys: what frames hold and the index finds. Code above the trait is one text for every kind of key.
-ghost use Rattle.std.specs.Prelude.{◌≡◌, ℕ, ◌^◌, ◌<◌};
+ghost use Rattle.std.specs.Prelude.{◌≡◌, ℕ};
 
 mod sector;
 mod volume;

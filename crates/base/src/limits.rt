@@ -1,5 +1,5 @@
-// The rules' numbers that several layers share. Code, contracts and definitions speak of them by their names alone, and the rules that
-// stand below keep each to its value.
+// The rules' numbers that several layers share. Code, contracts and definitions speak of them by these names, and each is kept to its
+// value by what is proved of it below.
 
 // The bytes of a sector.
 pub const SECTOR_BYTES: usize = 512;

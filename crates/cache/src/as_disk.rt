@@ -1,9 +1,6 @@
 // The cache as a disk, over any disk.
-ghost use Rattle.std.specs.Prelude.{◌≡◌, length};
 ghost use Rattle.disk.specs.declared.turn.Request.TheVariants.{Read, Write};
-ghost use Rattle.disk.specs.Meaning.{answer, after_read, buffer_read, after_write};
 ghost use Rattle.cache.specs.View.{seen};
-ghost use Rattle.cache.specs.Requests.{Turned};
 ghost use Rattle.cache.specs.Reading.{view, Safe, Takes};
 
 use crate::cache::Cache;

@@ -1,5 +1,4 @@
 // A whole run: a cache is started and takes the turns of several tasks, one after another.
-ghost use Rattle.std.specs.Prelude.{◌≡◌};
 ghost use Rattle.cache.specs.Reading.{Safe};
 ghost use Rattle.cache.specs.SetUp.{Ready, Begins};
 ghost use Rattle.cache.specs.Runs.{TakesOne, Runs};

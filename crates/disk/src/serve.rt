@@ -1,5 +1,5 @@
 // Lists of turns, served by a disk of any kind.
-ghost use Rattle.std.specs.Prelude.{◌≡◌, [], length};
+ghost use Rattle.std.specs.Prelude.{◌≡◌, []};
 ghost use Rattle.disk.specs.Meaning.{Tallied};
 ghost use Rattle.disk.specs.Asked.{after_asked};
 ghost use Rattle.disk.specs.Turns.{asked_in, Done, AllAnswered, after_turns};

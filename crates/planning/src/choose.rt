@@ -1,5 +1,5 @@
 // The frame that MIN gives to a fetched key.
-ghost use Rattle.std.specs.Prelude.{◌≡◌, ◌≤◌, length};
+ghost use Rattle.std.specs.Prelude.{◌≤◌, length};
 ghost use Rattle.planning.specs.Chosen.{LowestFurthest, Chosen, HeldBelow, next_of};
 
 use crate::held::HeldKeys;

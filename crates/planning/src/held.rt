@@ -1,6 +1,6 @@
 // Which keys the frames hold: the index has a held key's frame, the held-key list a frame's key, by the place of a touch of it in
 // the list of touches. In MIN's schedule that is the key's latest touch, in the replay the one that fetched it.
-ghost use Rattle.std.specs.Prelude.{◌≡◌, ℕ, ◌+◌, ◌<◌, ◌≤◌, max, length, slice_index, slice_set};
+ghost use Rattle.std.specs.Prelude.{◌≡◌, ◌+◌, ◌<◌, ◌≤◌, max, length, slice_index, slice_set};
 ghost use Rattle.base.specs.Keys.{codes_of};
 ghost use Rattle.base.specs.declared.limits.TheConstants.{MAX_FRAMES, MAX_TOUCHES};
 ghost use Rattle.policy.specs.Machine.{put};

@@ -1,5 +1,5 @@
 // The replay of a list of keys by a policy: what the frame machine fetches.
-ghost use Rattle.std.specs.Prelude.{◌≡◌, ℕ, ◌≤◌, true, false, length, is_ok, Ok};
+ghost use Rattle.std.specs.Prelude.{◌≡◌, ◌≤◌, false, length, is_ok, Ok};
 ghost use Rattle.base.specs.Keys.{codes_of};
 ghost use Rattle.base.specs.Geometries.{frames_of};
 ghost use Rattle.base.specs.declared.limits.TheConstants.{MAX_FRAMES, MAX_TOUCHES};

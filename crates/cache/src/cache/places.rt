@@ -1,5 +1,5 @@
 // Which place of the cache a turn works on: found, or fetched from below.
-ghost use Rattle.std.specs.Prelude.{◌≡◌, ℕ, ◌<◌, ◌≤◌, true, false, length, if◌then◌else◌};
+ghost use Rattle.std.specs.Prelude.{◌≡◌, ◌<◌, false, length, if◌then◌else◌};
 ghost use Rattle.base.specs.declared.limits.TheConstants.{SECTOR_BYTES};
 ghost use Rattle.disk.specs.Meaning.{answer, serves};
 ghost use Rattle.cache.specs.Places.{used, place_at};

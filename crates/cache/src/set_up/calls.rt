@@ -1,6 +1,6 @@
 // Setting a cache up, pinning sectors, and starting it.
 ghost use Rattle.std.specs.Prelude.{◌≡◌, []};
-ghost use Rattle.base.specs.Geometries.{frames_of, pins_of};
+ghost use Rattle.base.specs.Geometries.{pins_of};
 ghost use Rattle.cache.specs.Places.{pins};
 ghost use Rattle.cache.specs.SetUp.{set_up_view, Ready, FirstState, Pinned, Begins};
 ghost use Rattle.cache.specs.Reading.{Safe};

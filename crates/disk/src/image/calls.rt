@@ -1,8 +1,8 @@
 // What the image disk does.
-ghost use Rattle.std.specs.Prelude.{◌≡◌, ℕ, ◌*◌, ◌/◌, ◌<◌, min, false, List, length, if◌then◌else◌};
+ghost use Rattle.std.specs.Prelude.{◌≡◌, ◌*◌, ◌/◌, ◌<◌, length, if◌then◌else◌};
 ghost use Rattle.base.specs.Lists.{member};
 ghost use Rattle.base.specs.declared.limits.TheConstants.{SECTOR_BYTES};
-ghost use Rattle.disk.specs.Meaning.{answer, serves, raised, largest_count, after_read, buffer_read, after_write};
+ghost use Rattle.disk.specs.Meaning.{answer, serves, after_read, buffer_read, after_write};
 ghost use Rattle.disk.specs.Image.{imaged, image_of, image_written, sector_of};
 
 use super::ImageDisk;

@@ -1,5 +1,5 @@
 // What the joined disk does.
-ghost use Rattle.std.specs.Prelude.{◌≡◌, ℕ, ◌<◌, ◌≤◌, length};
+ghost use Rattle.std.specs.Prelude.{◌≡◌, ◌<◌, length};
 ghost use Rattle.disk.specs.Meaning.{answer, after_read, buffer_read, after_write};
 ghost use Rattle.disk.specs.Join.{joined, join_of, both, parts_after, BothSound};
 

@@ -1,5 +1,5 @@
 // Plan and replay together.
-ghost use Rattle.std.specs.Prelude.{◌≡◌, ℕ, ◌<◌, ◌≤◌, false, length, take};
+ghost use Rattle.std.specs.Prelude.{◌≡◌, ◌<◌, false, length, take};
 ghost use Rattle.std.specs.Prelude.{is_ok, IfOk};
 ghost use Rattle.base.specs.Keys.{codes_of};
 ghost use Rattle.planning.specs.Bounds.{Competitive, ForecastHolds};

@@ -1,5 +1,5 @@
 // Planning: judges its numbers and lists, then runs MIN on the smaller number of frames.
-ghost use Rattle.std.specs.Prelude.{◌≡◌, ℕ, ◌<◌, ◌≤◌, false, [], ◌++◌, length, take, drop};
+ghost use Rattle.std.specs.Prelude.{◌≡◌, ◌<◌, ◌≤◌, false, [], ◌++◌, length, take, drop};
 ghost use Rattle.std.specs.Prelude.{is_ok, IfOk};
 ghost use Rattle.base.specs.Keys.{codes_of};
 ghost use Rattle.base.specs.declared.limits.TheConstants.{MAX_FRAMES, MAX_TOUCHES};

@@ -1,5 +1,5 @@
 // A doubly linked list of frames, each at most once. A call takes the same few steps wherever in the list the frame stands.
-ghost use Rattle.std.specs.Prelude.{◌≡◌, ℕ, ◌+◌, ◌≤◌, ◌∷◌, true};
+ghost use Rattle.std.specs.Prelude.{◌≡◌, ◌+◌, ◌≤◌, ◌∷◌, true};
 ghost use Rattle.base.specs.Lists.{distinct};
 ghost use Rattle.base.specs.declared.limits.TheConstants.{MAX_FRAMES};
 ghost use Rattle.policy.specs.LinkedList.{sentinel, linked, following};
