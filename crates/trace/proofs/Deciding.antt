@@ -11,7 +11,7 @@ use Rattle.trace.specs.Accesses.{up_to, sized, opcode_of, time_stamp}
 use Rattle.trace.specs.Touches.{sectors_from}
 use Rattle.trace.specs.Traces.{FiveFields, UpTo, Whole, Numbers, Number, OpcodeText, TimeStamp, Line, Trace, none, last, fed, returned}
 use Rattle.trace.specs.Traces.{Within}
-use Rattle.trace.specs.Refused.{Begins, to_end, to_feed, to_return, Wrong, FirstWrong, Refused, field_count, no_unit, no_sector, no_size}
+use Rattle.trace.specs.Refused.{FirstLine, to_end, to_feed, to_return, Wrong, FirstWrong, Refused, field_count, no_unit, no_sector, no_size}
 use Rattle.trace.specs.Refused.{bad_size, bad_opcode, bad_time_stamp, past_last_sector, too_many_touches, here, later, trace_too_long}
 use Rattle.trace.specs.Refused.{wrong_line, too_few_places}
 use Rattle.trace.proofs.Accepted.{ok_same}
@@ -112,7 +112,7 @@ line_decided n t line = elim (five_or_not line) [
 ]
 
 -- a good line more in front of a trace
-trace_more : {line text rest ts us : List ℕ} → Begins line text rest → Line line ts → Trace rest us → length us ≤ 4096 →
+trace_more : {line text rest ts us : List ℕ} → FirstLine line text rest → Line line ts → Trace rest us → length us ≤ 4096 →
     Trace text (ts ++ us)
 trace_more {line} {text} {rest} {ts} {us} (to_end some lacks) h r few =
     let fits : 0 + length us ≤ 4096 = omega (arith, few) in

@@ -17,11 +17,11 @@ use Rattle.trace.specs.Traces.{FiveFields, UpTo, Whole, Numbers, Number, OpcodeT
 
 -- a text begins with a line, and the rest stands behind its ending: the line goes to the first line feed, or to the end of the text,
 -- and a carriage return right before that line feed is no part of it
-pub data Begins (line : List ℕ) : List ℕ → List ℕ → Type 0 where
-  to_end : 1 ≤ length line → Lacks line_feed line → Begins line line []
+pub data FirstLine (line : List ℕ) : List ℕ → List ℕ → Type 0 where
+  to_end : 1 ≤ length line → Lacks line_feed line → FirstLine line line []
   to_feed : {rest : List ℕ} → Lacks line_feed line → ((bs : List ℕ) → line ≢ bs ++ (carriage_return ∷ [])) →
-      Begins line (line ++ (line_feed ∷ rest)) rest
-  to_return : {rest : List ℕ} → Lacks line_feed line → Begins line (line ++ (carriage_return ∷ (line_feed ∷ rest))) rest
+      FirstLine line (line ++ (line_feed ∷ rest)) rest
+  to_return : {rest : List ℕ} → Lacks line_feed line → FirstLine line (line ++ (carriage_return ∷ (line_feed ∷ rest))) rest
 
 -- the fault of a field of line n
 abbrev pub field_fault : ℕ → Field → Refusal → LineFault
@@ -55,9 +55,9 @@ pub data Wrong (n t : ℕ) (line : List ℕ) : LineFault → Report → Type 0 w
 -- it are within the most.
 pub data FirstWrong : ℕ → ℕ → List ℕ → LineFault → Report → Type 0 where
   here : {n t : ℕ} {line text rest : List ℕ} {f : LineFault} {r : Report} →
-      Begins line text rest → Wrong n t line f r → FirstWrong n t text f r
+      FirstLine line text rest → Wrong n t line f r → FirstWrong n t text f r
   later : {n t : ℕ} {line text rest ts : List ℕ} {f : LineFault} {r : Report} →
-      Begins line text rest → Line line ts → t + length ts ≤ MAX_TOUCHES → FirstWrong (n + 1) (t + length ts) rest f r →
+      FirstLine line text rest → Line line ts → t + length ts ≤ MAX_TOUCHES → FirstWrong (n + 1) (t + length ts) rest f r →
       FirstWrong n t text f r
 
 -- What a text is refused for, with a key list of so many places, and its report: its length is judged first, then its lines, and

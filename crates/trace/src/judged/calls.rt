@@ -1,7 +1,7 @@
 // Judging a trace, and reading it into keys.
 ghost use Rattle.std.specs.Prelude.{◌≡◌, length};
 ghost use Rattle.trace.specs.Touches.{judged, placed, counted, Written};
-ghost use Rattle.trace.specs.Judged.{touches_of, judged_touches};
+ghost use Rattle.trace.specs.Judged.{trace_touches, judged_touches};
 ghost use Rattle.trace.specs.Traces.{Reads};
 ghost use Rattle.trace.specs.Refused.{Refuses};
 
@@ -40,8 +40,8 @@ pub fn judge_trace(text: &[u8], places: usize) -> Result<JudgedTrace<'_>, Replay
 impl JudgedTrace<'_> {
     // Writes a key for each touch, and answers how many.
     pub fn read_into(&self, keys: &mut [VolumeKey]) -> Result<usize, ReplayFault>
-        ensures answer { result ≡ counted (placed (length keys.old) (touches_of self.now)) }
-        ensures keys { Written (placed (length keys.old) (touches_of self.now)) keys.old keys.new }
+        ensures answer { result ≡ counted (placed (length keys.old) (trace_touches self.now)) }
+        ensures keys { Written (placed (length keys.old) (trace_touches self.now)) keys.old keys.new }
     {
         if self.touches > keys.len() {
             return Err(ReplayFault::Refused(Refusal::TooFewPlaces));

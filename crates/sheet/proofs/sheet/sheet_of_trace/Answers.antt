@@ -6,7 +6,7 @@ use Rattle.base.specs.declared.key.volume.VolumeKey.{VolumeKey}
 use Rattle.planning.specs.declared.lists.Lists.{Lists}
 use Rattle.trace.specs.declared.fault.ReplayFault.{ReplayFault}
 use Rattle.trace.specs.Touches.{judged, counted, Written}
-use Rattle.trace.specs.Judged.{touches_of}
+use Rattle.trace.specs.Judged.{trace_touches}
 use Rattle.trace.proofs.Exact.{judged_sound, judged_placed}
 use Rattle.sheet.specs.Rows.{Lent, lent, Roomy, room, row_of, frame_counts, touches_for, sheet_of, served, serving_of}
 use Rattle.planning.specs.Lists.{room_in}
@@ -38,7 +38,7 @@ rows_of_keys-requires c =
     let text = c.args.text.now in
     let keys = c.args.keys.now in
     let l = lent keys c.args.lists.now in
-    let ts = touches_of c.in_ok-trace.trace in
+    let ts = trace_touches c.in_ok-trace.trace in
     let er = c.min.ensures ∙ ap (min l.keys) (c.room.ensures ∙ ap room_in c.places.ensures) in
     let accepted = sym (c.in_ok-trace.ensures.answer ∙ ap (judged text) er) in
     let placed = judged_placed text (room l) l.keys ts (omega arith) accepted in
@@ -53,7 +53,7 @@ returns c =
     let l = lent c.args.keys.now c.args.lists.now in
     let er = c.min.ensures ∙ ap (min l.keys) (c.room.ensures ∙ ap room_in c.places.ensures) in
     let old = c.args.lists.now.serving.now in
-    let ts = touches_of c.in_ok-trace.trace in
+    let ts = trace_touches c.in_ok-trace.trace in
     let accepted = sym (c.in_ok-trace.ensures.answer ∙ ap (judged text) er) in
     let room = judged_placed text (room l) l.keys ts (omega arith) accepted in
     let tf = fits text l ts accepted c.if-lists-lt-MAX_FRAMES.false in
