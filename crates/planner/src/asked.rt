@@ -1,7 +1,7 @@
 // What the words of a command line ask for. A number never names a file, so that it is clear which words are numbers.
 use std::fmt;
 
-#[derive(Clone, Copy, PartialEq, Eq, Debug)]
+#[derive(Clone, Copy)]
 pub enum Asked<'a> {
     Help,
     Sheet {
@@ -15,7 +15,7 @@ pub enum Asked<'a> {
     Misused(Misuse),
 }
 
-#[derive(Clone, Copy, PartialEq, Eq, Debug)]
+#[derive(Clone, Copy)]
 pub enum Misuse {
     NoSuchOption,
     Numbers,

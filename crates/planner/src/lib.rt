@@ -5,8 +5,6 @@ mod asked;
 mod input;
 mod program;
 mod recording;
-#[cfg(test)]
-mod tests;
 
 pub use input::read_text;
 pub use program::{print_refused, tawqeru, words_of};

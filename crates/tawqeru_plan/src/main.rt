@@ -1,9 +1,0 @@
-// The program tawqeru once more: this run of it, in the gate, prints the plan of a trace in a file.
-#![tactic(auto)]
-
-use std::io;
-use std::process::ExitCode;
-
-fn main(rt: HostRuntime) -> io::Result<ExitCode> {
-    planner::tawqeru(&rt)
-}
