@@ -1,6 +1,7 @@
 // Geometries at their bounds, and the numbers of refusals.
+use crate::helpers::{check_eq, check_shown};
 use base::{Geometry, Refusal};
-use std::alloc::AllocError;
+use std::test::Fail;
 
 // The frames and the pin places of a geometry.
 fn judged(frames: usize, pins: usize) -> Result<(usize, usize), Refusal> {
@@ -8,15 +9,23 @@ fn judged(frames: usize, pins: usize) -> Result<(usize, usize), Refusal> {
     Ok((geometry.frames(), geometry.pins()))
 }
 
+// Frames and pin places, and what a geometry of them answers for both.
+const GEOMETRIES: [(usize, usize, Result<(usize, usize), Refusal>); 7] = [
+    (0, 0, Err(Refusal::FrameCount)),
+    (1, 0, Ok((1, 0))),
+    (64, 8, Ok((64, 8))),
+    (65, 8, Err(Refusal::FrameCount)),
+    (64, 9, Err(Refusal::PinPlaceCount)),
+    (65, 9, Err(Refusal::FrameCount)),
+    (0, 9, Err(Refusal::FrameCount)),
+];
+
 #[test]
-fn geometry_has_bounds(rt: HostRuntime) {
-    assert_eq!(rt; judged(0, 0), Err(Refusal::FrameCount));
-    assert_eq!(rt; judged(1, 0), Ok((1, 0)));
-    assert_eq!(rt; judged(64, 8), Ok((64, 8)));
-    assert_eq!(rt; judged(65, 8), Err(Refusal::FrameCount));
-    assert_eq!(rt; judged(64, 9), Err(Refusal::PinPlaceCount));
-    assert_eq!(rt; judged(65, 9), Err(Refusal::FrameCount));
-    assert_eq!(rt; judged(0, 9), Err(Refusal::FrameCount));
+fn geometry_has_bounds() -> Result<(), Fail> {
+    for (frames, pins, answer) in &GEOMETRIES {
+        check_eq(judged(*frames, *pins), *answer)?;
+    }
+    Ok(())
 }
 
 const REFUSALS: [Refusal; 20] = [
@@ -43,15 +52,15 @@ const REFUSALS: [Refusal; 20] = [
 ];
 
 #[test]
-fn refusals_have_numbers_in_order(rt: HostRuntime) {
+fn refusals_have_numbers_in_order() -> Result<(), Fail> {
     for (i, refusal) in REFUSALS.iter().enumerate() {
-        assert_eq!(rt; refusal.number() as usize, i + 1);
+        check_eq(refusal.number() as usize, i + 1)?;
     }
+    Ok(())
 }
 
 #[test]
-fn refusals_are_printed_as_their_numbers(rt: HostRuntime) -> Result<(), AllocError> {
-    let shown = format!(in rt.alloc(); "{} {}", Refusal::FrameCount, Refusal::IndexFull)?;
-    assert_eq!(rt; shown.as_str(), "1 20");
-    Ok(())
+fn refusals_are_printed_as_their_numbers(rt: HostRuntime) -> Result<(), Fail> {
+    check_shown(rt.alloc(), Refusal::FrameCount, "1")?;
+    check_shown(rt.alloc(), Refusal::IndexFull, "20")
 }

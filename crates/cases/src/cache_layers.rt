@@ -49,8 +49,7 @@ fn writes_reach_the_images(rt: HostRuntime) -> Result<(), Fail> {
     let (disk, checked, fetches) = run_both(inner, outer, ());
     drop(disk);
     checked?;
-    assert_eq!(rt; fetches, 6);
-    assert_eq!(rt; bytes_in(&one), [Some(50), Some(51)]);
-    assert_eq!(rt; bytes_in(&two), [Some(10), Some(53)]);
-    Ok(())
+    check_eq(fetches, 6)?;
+    check_bytes(&one, &[50, 51])?;
+    check_bytes(&two, &[10, 53])
 }

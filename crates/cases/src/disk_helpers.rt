@@ -1,9 +1,11 @@
 // Calls of a disk of any kind, with buffers of one byte throughout.
 ghost use Rattle.std.specs.Prelude.{◌≤◌};
 
+use crate::helpers::check_eq;
 use base::{Refusal, SECTOR_BYTES};
 use disk::Disk;
 use std::alloc::{AllocError, Global};
+use std::test::Fail;
 
 // What a buffer holds before a read.
 pub const BLANK: u8 = 0xee;
@@ -49,11 +51,14 @@ pub fn image_of(heap: Global, len: usize) -> Result<Vec<u8>, AllocError> {
 }
 
 // The byte that an image has throughout a sector, or throughout the part of it that there is.
-pub fn byte_in(image: &[u8], sector: usize) -> Option<u8> {
+fn byte_in(image: &[u8], sector: usize) -> Option<u8> {
     only_byte(image.chunks(SECTOR_BYTES).nth(sector)?)
 }
 
-// The bytes of its first sectors.
-pub fn bytes_in<const SECTORS: usize>(image: &[u8]) -> [Option<u8>; SECTORS] {
-    std::array::from_fn(|sector| byte_in(image, sector))
+// An error where one of an image's first sectors has another byte.
+pub fn check_bytes(image: &[u8], bytes: &[u8]) -> Result<(), Fail> {
+    for (sector, byte) in bytes.iter().enumerate() {
+        check_eq(byte_in(image, sector), Some(*byte))?;
+    }
+    Ok(())
 }

@@ -6,7 +6,7 @@ use index::Slot;
 use planning::replay_keys;
 use policy::{Clock, Fifo, Lru, Policy};
 use std::alloc::{AllocError, Global};
-use std::fmt::Debug;
+use std::fmt::{Debug, Display};
 use std::test::Fail;
 
 // An error where a condition does not hold. What a test calls uses this and the next, and only the test itself ends the run:
@@ -30,6 +30,12 @@ pub fn check_eq<T: PartialEq + Debug + Drop>(found: T, expected: T) -> Result<()
     } else {
         Err(Fail::new(format_args!("{found:?}, and not {expected:?}")))
     }
+}
+
+// An error where a value is printed as another text.
+pub fn check_shown<T: Display + Drop>(heap: Global, value: T, text: &str) -> Result<(), Fail> {
+    let shown = format!(in heap; "{value}")?;
+    check_eq(shown.as_str(), text)
 }
 
 pub fn sectors_of(heap: Global, numbers: &[u32]) -> Result<Vec<Sector>, AllocError> {

@@ -1,8 +1,9 @@
 // The image disk: its count, its refusals, and what it leaves alone.
 use crate::disk_helpers::*;
 use crate::helpers::check_eq;
-use base::Refusal;
-use disk::{Disk, ImageDisk, Tallies};
+use crate::turn_helpers::*;
+use disk::{Disk, ImageDisk, Request};
+use std::alloc::Global;
 use std::test::Fail;
 
 // Bytes of an image, and its whole sectors.
@@ -12,58 +13,43 @@ const COUNTS: [(usize, u32); 5] = [(0, 0), (511, 0), (512, 1), (1025, 2), (2048,
 fn images_have_whole_sectors(rt: HostRuntime) -> Result<(), Fail> {
     for (len, count) in &COUNTS {
         let mut image = image_of(rt.alloc(), *len)?;
-        assert_eq!(rt; ImageDisk::new(&mut image, &[]).count(), *count);
+        check_eq(ImageDisk::new(&mut image, &[]).count(), *count)?;
     }
     Ok(())
 }
 
-// A disk of four sectors, of which sector 2 is dead.
-fn check_refusals<D: Disk>(disk: &mut D) -> Result<(), Fail>
-    requires { D.Disk.sound disk.old }
-    ensures { D.Disk.sound disk.new }
-{
-    let short = (Err(Refusal::BufferLength), Some(BLANK));
-    check_eq(read_of::<511, D>(disk, 4), short)?;
-    check_eq(read_of::<513, D>(disk, 2), short)?;
-    let none = (Err(Refusal::NoSuchSector), Some(BLANK));
-    check_eq(read_of::<512, D>(disk, 4), none)?;
-    let dead = (Err(Refusal::DeadSector), Some(BLANK));
-    check_eq(read_of::<512, D>(disk, 2), dead)?;
-    check_eq(write_of::<513, D>(disk, 4, 99), Err(Refusal::BufferLength))?;
-    check_eq(write_of::<511, D>(disk, 2, 99), Err(Refusal::BufferLength))?;
-    check_eq(write_of::<512, D>(disk, 4, 99), Err(Refusal::NoSuchSector))?;
-    check_eq(write_of::<512, D>(disk, 2, 99), Err(Refusal::DeadSector))?;
-    check_eq(disk.tallies(), Tallies::new(0, 0))
-}
+// Turns of a disk of four sectors, of which sector 2 is dead.
+const REFUSED: [Case; 8] = [
+    (1, Request::Read, 4, (511, BLANK), SHORT, BLANK),
+    (1, Request::Read, 2, (513, BLANK), SHORT, BLANK),
+    (1, Request::Read, 4, (512, BLANK), NO_SECTOR, BLANK),
+    (1, Request::Read, 2, (512, BLANK), DEAD, BLANK),
+    (1, Request::Write, 4, (513, 99), SHORT, 99),
+    (1, Request::Write, 2, (511, 99), SHORT, 99),
+    (1, Request::Write, 4, (512, 99), NO_SECTOR, 99),
+    (1, Request::Write, 2, (512, 99), DEAD, 99),
+];
 
-fn check_served<D: Disk>(disk: &mut D) -> Result<(), Fail>
-    requires { D.Disk.sound disk.old }
-    ensures { D.Disk.sound disk.new }
-{
-    check_eq(read_of::<512, D>(disk, 3), (Ok(()), Some(13)))?;
-    check_eq(disk.tallies(), Tallies::new(1, 0))?;
-    check_eq(write_of::<512, D>(disk, 1, 99), Ok(()))?;
-    check_eq(disk.tallies(), Tallies::new(1, 1))?;
-    check_eq(read_of::<512, D>(disk, 1), (Ok(()), Some(99)))?;
-    check_eq(write_of::<512, D>(disk, 3, 98), Ok(()))?;
-    check_eq(disk.tallies(), Tallies::new(2, 2))
-}
+const READ: [Case; 1] = [(1, Request::Read, 3, (512, BLANK), Ok(()), 13)];
 
-fn check_disk(image: &mut [u8]) -> Result<(), Fail> {
+const WRITTEN: [Case; 3] = [
+    (1, Request::Write, 1, (512, 99), Ok(()), 99),
+    (1, Request::Read, 1, (512, BLANK), Ok(()), 99),
+    (1, Request::Write, 3, (512, 98), Ok(()), 98),
+];
+
+fn check_disk(heap: Global, image: &mut [u8]) -> Result<(), Fail> {
     let mut disk = ImageDisk::new(image, &[9, 2, 4, 2]);
     check_eq(disk.count(), 4)?;
-    check_refusals(&mut disk)?;
-    check_served(&mut disk)
+    check_served(heap, &mut disk, &REFUSED, (0, 0))?;
+    check_served(heap, &mut disk, &READ, (1, 0))?;
+    check_served(heap, &mut disk, &WRITTEN, (2, 2))
 }
 
 #[test]
 fn images_are_read_and_written(rt: HostRuntime) -> Result<(), Fail> {
     let mut image = image_of(rt.alloc(), 4 * 512 + 7)?;
-    check_disk(&mut image)?;
-    assert_eq!(rt; image.len(), 4 * 512 + 7);
-    assert_eq!(rt;
-        bytes_in(&image),
-        [Some(10), Some(99), Some(12), Some(98), Some(14)]
-    );
-    Ok(())
+    check_disk(rt.alloc(), &mut image)?;
+    check_eq(image.len(), 4 * 512 + 7)?;
+    check_bytes(&image, &[10, 99, 12, 98, 14])
 }

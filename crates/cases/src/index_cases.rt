@@ -1,69 +1,105 @@
 // The index with both kinds of keys.
+ghost use Rattle.index.specs.Slots.{SoundIndex};
+
 use crate::helpers::check_eq;
 use base::{Key, Refusal, Sector, VolumeKey};
 use index::{Entry, Index, Slot};
 use std::test::Fail;
 
-fn check_calls<K: Key>(slots: &mut [Slot<K>], a: K, b: K) -> Result<(), Fail> {
-    let mut index = Index::new(slots);
-    check_eq(index.find(&a), None)?;
-    check_eq(index.put(a, 5), Ok(()))?;
-    check_eq((index.find(&a), index.find(&b)), (Some(5), None))?;
-    check_eq(index.put(a, 6), Ok(()))?;
-    check_eq(index.put(b, 7), Ok(()))?;
-    check_eq((index.find(&a), index.find(&b)), (Some(6), Some(7)))?;
-    check_eq(index.remove(&a), Some(6))?;
-    check_eq((index.find(&a), index.find(&b)), (None, Some(7)))?;
-    check_eq(index.remove(&a), None)?;
-    check_eq(index.len(), 1)
+// A call with a key, and what it answers.
+enum Call {
+    Put(u32, Result<(), Refusal>),
+    Find(Option<u32>),
+    Remove(Option<u32>),
 }
+
+fn check_call<K: Key>(index: &mut Index<'_, K>, key: K, call: &Call) -> Result<(), Fail>
+    requires { SoundIndex K.Key.code K.Key.spread index.old }
+    ensures { SoundIndex K.Key.code K.Key.spread index.new }
+{
+    match call {
+        Call::Put(number, answer) => check_eq(index.put(key, *number), *answer),
+        Call::Find(answer) => check_eq(index.find(&key), *answer),
+        Call::Remove(answer) => check_eq(index.remove(&key), *answer),
+    }
+}
+
+// Makes calls, each with the key at a place of the list, on an empty index, which has so many keys in the end.
+fn check_calls<K: Key>(
+    slots: &mut [Slot<K>],
+    keys: &[K],
+    calls: &[(usize, Call)],
+    len: usize,
+) -> Result<(), Fail> {
+    let mut index = Index::new(slots);
+    for (place, call) in calls {
+        let Some(key) = keys.get(*place) else {
+            return Err(Fail::new("there is no such key"));
+        };
+        check_call(&mut index, *key, call)?;
+    }
+    check_eq(index.len(), len)
+}
+
+const TWO_KEYS: [(usize, Call); 12] = [
+    (0, Call::Find(None)),
+    (0, Call::Put(5, Ok(()))),
+    (0, Call::Find(Some(5))),
+    (1, Call::Find(None)),
+    (0, Call::Put(6, Ok(()))),
+    (1, Call::Put(7, Ok(()))),
+    (0, Call::Find(Some(6))),
+    (1, Call::Find(Some(7))),
+    (0, Call::Remove(Some(6))),
+    (0, Call::Find(None)),
+    (1, Call::Find(Some(7))),
+    (0, Call::Remove(None)),
+];
 
 #[test]
 fn keys_come_and_go() -> Result<(), Fail> {
-    let last = Sector { number: 4294967295 };
-    check_calls(&mut [None; 2], Sector { number: 0 }, last)?;
+    let ends = [0, 4294967295].map(|number| Sector { number });
+    check_calls(&mut [None; 2], &ends, &TWO_KEYS, 1)?;
     // keys that differ in the unit only, and in the sector number only
     let key = VolumeKey::new(1, 7);
     let mut slots = [Some(Entry { key, number: 3 }); 8];
-    check_calls(&mut slots, key, VolumeKey::new(2, 7))?;
-    check_calls(&mut slots, key, VolumeKey::new(1, 8))
+    check_calls(&mut slots, &[key, VolumeKey::new(2, 7)], &TWO_KEYS, 1)?;
+    check_calls(&mut slots, &[key, VolumeKey::new(1, 8)], &TWO_KEYS, 1)
 }
 
 // Four keys over three slots.
-fn check_full<K: Key>(slots: &mut [Slot<K>], keys: [K; 4]) -> Result<(), Fail> {
-    let [a, b, c, d] = keys;
-    let mut index = Index::new(slots);
-    check_eq(index.put(a, 1), Ok(()))?;
-    check_eq(index.put(b, 2), Ok(()))?;
-    check_eq(index.put(c, 3), Ok(()))?;
-    check_eq(index.put(d, 4), Err(Refusal::IndexFull))?;
-    check_eq(index.find(&d), None)?;
+const FULL: [(usize, Call); 12] = [
+    (0, Call::Put(1, Ok(()))),
+    (1, Call::Put(2, Ok(()))),
+    (2, Call::Put(3, Ok(()))),
+    (3, Call::Put(4, Err(Refusal::IndexFull))),
+    (3, Call::Find(None)),
     // a key that is there is replaced all the same
-    check_eq(index.put(a, 5), Ok(()))?;
-    check_eq(index.remove(&b), Some(2))?;
-    check_eq(index.put(d, 4), Ok(()))?;
-    check_eq([index.find(&a), index.find(&b)], [Some(5), None])?;
-    check_eq([index.find(&c), index.find(&d)], [Some(3), Some(4)])
-}
+    (0, Call::Put(5, Ok(()))),
+    (1, Call::Remove(Some(2))),
+    (3, Call::Put(4, Ok(()))),
+    (0, Call::Find(Some(5))),
+    (1, Call::Find(None)),
+    (2, Call::Find(Some(3))),
+    (3, Call::Find(Some(4))),
+];
 
-fn check_no_slots<K: Key>(slots: &mut [Slot<K>], key: K) -> Result<(), Fail> {
-    let mut index = Index::new(slots);
-    check_eq(index.put(key, 1), Err(Refusal::IndexFull))?;
-    check_eq(index.find(&key), None)?;
-    check_eq(index.remove(&key), None)?;
-    check_eq(index.len(), 0)
-}
+const NO_SLOTS: [(usize, Call); 3] = [
+    (0, Call::Put(1, Err(Refusal::IndexFull))),
+    (0, Call::Find(None)),
+    (0, Call::Remove(None)),
+];
 
 #[test]
 fn full_index_refuses_new_sectors() -> Result<(), Fail> {
     let keys = [1, 2, 3, 4].map(|number| Sector { number });
-    check_full(&mut [None; 3], keys)?;
-    check_no_slots(&mut [], Sector { number: 1 })
+    check_calls(&mut [None; 3], &keys, &FULL, 3)?;
+    check_calls(&mut [], &keys, &NO_SLOTS, 0)
 }
 
 #[test]
 fn full_index_refuses_new_volume_keys() -> Result<(), Fail> {
     let keys = [(0, 7), (1, 7), (1, 8), (255, 7)].map(|(asu, lba)| VolumeKey::new(asu, lba));
-    check_full(&mut [None; 3], keys)?;
-    check_no_slots(&mut [], VolumeKey::new(1, 7))
+    check_calls(&mut [None; 3], &keys, &FULL, 3)?;
+    check_calls(&mut [], &keys, &NO_SLOTS, 0)
 }

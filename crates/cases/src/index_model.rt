@@ -101,8 +101,7 @@ fn sectors_agree_with_a_list(rt: HostRuntime) -> Result<(), Fail> {
         .map(|number| (Sector { number }, None))
         .collect::<Vec<Pair<Sector>>>(rt.alloc())?;
     let refused = count_refused(&mut [None; SLOTS], &mut model)?;
-    assert_eq!(rt; refused, 168);
-    Ok(())
+    check_eq(refused, 168)
 }
 
 #[test]
@@ -111,6 +110,5 @@ fn volume_keys_agree_with_a_list(rt: HostRuntime) -> Result<(), Fail> {
         .map(|number| (VolumeKey::new((number % 3) as u8, number / 3), None))
         .collect::<Vec<Pair<VolumeKey>>>(rt.alloc())?;
     let refused = count_refused(&mut [None; SLOTS], &mut model)?;
-    assert_eq!(rt; refused, 168);
-    Ok(())
+    check_eq(refused, 168)
 }

@@ -11,8 +11,6 @@ mod cache_helpers;
 #[cfg(test)]
 mod cache_layers;
 #[cfg(test)]
-mod cache_pins;
-#[cfg(test)]
 mod cache_policies;
 #[cfg(test)]
 mod cache_sessions;
@@ -48,6 +46,8 @@ mod trace_limits;
 mod turn_cases;
 #[cfg(test)]
 mod turn_helpers;
+#[cfg(test)]
+mod workspace_cases;
 
 // The list of touches of most examples. On it FIFO fetches more often with four frames than with three.
 pub fn anomaly_touches() -> [u32; 12]

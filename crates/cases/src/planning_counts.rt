@@ -40,7 +40,7 @@ fn schedules_have_the_fewest_fetches(rt: HostRuntime) -> Result<(), Fail> {
     for ((frames, _, fewest), expected) in FETCHES.iter().zip(&SERVING) {
         let mut serving = [77; 14];
         let fetches = fewest_of(&keys, *frames, &mut [None; 12], &mut serving)?;
-        assert_eq!(rt; (fetches, serving), (*fewest, *expected));
+        check_eq((fetches, serving), (*fewest, *expected))?;
     }
     Ok(())
 }
@@ -71,25 +71,18 @@ fn forecasts_have_all_three_counts(rt: HostRuntime) -> Result<(), Fail> {
         fetches: 9,
         ceiling: 16,
     };
-    assert_eq!(rt;
-        forecast_of::<Lru>((), &keys, 2, &mut [0; 4]),
-        Ok(Forecast { plan, fetches: 8 })
-    );
-    assert_eq!(rt;
-        forecast_of::<Fifo>((), &keys, 2, &mut [0; 4]),
-        Ok(Forecast { plan, fetches: 10 })
-    );
-    assert_eq!(rt;
-        forecast_of::<Clock>((), &keys, 2, &mut [0; 4]),
-        Ok(Forecast { plan, fetches: 10 })
-    );
+    let lru = forecast_of::<Lru>((), &keys, 2, &mut [0; 4]);
+    check_eq(lru, Ok(Forecast { plan, fetches: 8 }))?;
+    let fifo = forecast_of::<Fifo>((), &keys, 2, &mut [0; 4]);
+    check_eq(fifo, Ok(Forecast { plan, fetches: 10 }))?;
+    let clock = forecast_of::<Clock>((), &keys, 2, &mut [0; 4]);
+    check_eq(clock, Ok(Forecast { plan, fetches: 10 }))?;
     let few_places = forecast_of::<Lru>((), &keys, 2, &mut [0; 3]);
-    assert_eq!(rt; few_places, Err(Refusal::TooFewPlaces));
+    check_eq(few_places, Err(Refusal::TooFewPlaces))?;
     let no_frames = forecast_of::<Lru>((), &keys, 0, &mut [0; 5]);
-    assert_eq!(rt; no_frames, Err(Refusal::SmallerFrameCount));
+    check_eq(no_frames, Err(Refusal::SmallerFrameCount))?;
     let more_frames = forecast_of::<Lru>((), &keys, 5, &mut [0; 5]);
-    assert_eq!(rt; more_frames, Err(Refusal::SmallerFrameCount));
-    Ok(())
+    check_eq(more_frames, Err(Refusal::SmallerFrameCount))
 }
 
 // The same touches as a trace.
@@ -113,6 +106,6 @@ fn check_rows(
 #[test]
 fn traces_have_their_counts(rt: HostRuntime) -> Result<(), Fail> {
     let mut keys = [VolumeKey::new(9, 9); 12];
-    assert_eq!(rt; read_trace(TEXT.as_bytes(), &mut keys), Ok(12));
+    check_eq(read_trace(TEXT.as_bytes(), &mut keys), Ok(12))?;
     check_rows(&keys, &mut [None; 12], &mut [0; 12])
 }

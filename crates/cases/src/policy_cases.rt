@@ -21,8 +21,7 @@ fn use_needs_a_filled_frame(rt: HostRuntime) -> Result<(), Fail> {
     let geometry = Geometry::new(2, 0)?;
     check_uses(&mut Lru::new((), &geometry))?;
     check_uses(&mut Fifo::new((), &geometry))?;
-    check_uses(&mut Clock::new((), &geometry))?;
-    Ok(())
+    check_uses(&mut Clock::new((), &geometry))
 }
 
 // The frames of a full policy's next three places, with a use before the first and one before the second.
@@ -42,8 +41,7 @@ fn full_places_follow_the_rules(rt: HostRuntime) -> Result<(), Fail> {
     let geometry = Geometry::new(3, 0)?;
     check_places(&mut Lru::new((), &geometry), [1, 2, 0])?;
     check_places(&mut Fifo::new((), &geometry), [0, 1, 2])?;
-    check_places(&mut Clock::new((), &geometry), [0, 2, 1])?;
-    Ok(())
+    check_places(&mut Clock::new((), &geometry), [0, 2, 1])
 }
 
 #[test]
@@ -51,7 +49,7 @@ fn replays_count_fetches(rt: HostRuntime) -> Result<(), Fail> {
     let keys = sectors_of(rt.alloc(), &anomaly_touches())?;
     for (frames, expected, _) in &FETCHES {
         let counts = counts_of(*frames, &keys, &mut [None; 12])?;
-        assert_eq!(rt; counts, *expected);
+        check_eq(counts, *expected)?;
     }
     Ok(())
 }

@@ -1,9 +1,10 @@
 // How a row of the sheet is printed.
+use crate::helpers::check_shown;
 use sheet::Row;
-use std::alloc::AllocError;
+use std::test::Fail;
 
 #[test]
-fn rows_are_printed_as_their_numbers(rt: HostRuntime) -> Result<(), AllocError> {
+fn rows_are_printed_as_their_numbers(rt: HostRuntime) -> Result<(), Fail> {
     let row = Row {
         frames: 3,
         lru: 10,
@@ -11,7 +12,5 @@ fn rows_are_printed_as_their_numbers(rt: HostRuntime) -> Result<(), AllocError> 
         clock: 8,
         min: 7,
     };
-    let shown = format!(in rt.alloc(); "{row}")?;
-    assert_eq!(rt; shown.as_str(), "3,10,9,8,7");
-    Ok(())
+    check_shown(rt.alloc(), row, "3,10,9,8,7")
 }

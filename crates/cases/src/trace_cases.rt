@@ -1,12 +1,9 @@
 // Texts that the trace reader accepts or refuses, each with its answer.
-use crate::helpers::check_eq;
-use crate::trace_helpers::{judge, report_of};
+use crate::helpers::{check_eq, check_shown};
+use crate::trace_helpers::{Numbers, judge, report_of};
 use base::{Refusal, VolumeKey};
 use std::test::Fail;
 use trace::{ReplayFault, Report};
-
-// The number, line and field that are reported.
-type Numbers = (u8, u32, u8);
 
 // A text of at most 128 touches.
 fn judge_text(text: &str) -> Result<usize, Report> {
@@ -97,10 +94,11 @@ fn check_refused(cases: &[(&str, Numbers)]) -> Result<(), Fail> {
 }
 
 #[test]
-fn accepts(rt: HostRuntime) {
+fn accepts() -> Result<(), Fail> {
     for (text, touches) in &ACCEPTED {
-        assert_eq!(rt; judge_text(*text), Ok(*touches), "{}", *text);
+        check_eq((*text, judge_text(*text)), (*text, Ok(*touches)))?;
     }
+    Ok(())
 }
 
 #[test]
@@ -113,15 +111,11 @@ fn refuses() -> Result<(), Fail> {
 
 #[test]
 fn reports_are_printed_as_their_numbers(rt: HostRuntime) -> Result<(), Fail> {
-    let shown = format!(in rt.alloc(); "{}", report_of((12, 3, 3)))?;
-    assert_eq!(rt; shown.as_str(), "12,3,3");
-    Ok(())
+    check_shown(rt.alloc(), report_of((12, 3, 3)), "12,3,3")
 }
 
 #[test]
 fn faults_are_printed_as_refusals(rt: HostRuntime) -> Result<(), Fail> {
     let fault = ReplayFault::Refused(Refusal::TraceTooLong);
-    let shown = format!(in rt.alloc(); "{fault}")?;
-    assert_eq!(rt; shown.as_str(), "refused,9,0,0");
-    Ok(())
+    check_shown(rt.alloc(), fault, "refused,9,0,0")
 }

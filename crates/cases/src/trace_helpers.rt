@@ -7,7 +7,9 @@ pub fn judge(text: &str, keys: &mut [VolumeKey]) -> Result<usize, Report> {
 }
 
 // The number, line and field that are reported.
-pub fn report_of(numbers: (u8, u32, u8)) -> Report {
+pub type Numbers = (u8, u32, u8);
+
+pub fn report_of(numbers: Numbers) -> Report {
     let (number, line, field) = numbers;
     Report {
         number,

@@ -1,6 +1,6 @@
 // Traces at their limits, and what the list of keys is afterwards.
 use crate::helpers::check_eq;
-use crate::trace_helpers::{judge, report_of};
+use crate::trace_helpers::{Numbers, judge, report_of};
 use base::VolumeKey;
 use std::alloc::{AllocError, Global};
 use std::test::Fail;
@@ -13,46 +13,46 @@ fn repeat(heap: Global, line: &str, times: usize, last: &str) -> Result<String, 
     Ok(text)
 }
 
-#[test]
-fn length_has_a_limit(rt: HostRuntime) -> Result<(), Fail> {
-    // 16 bytes
-    let line = "0,0,512,R,00000\n";
-    let mut keys = vec![in rt.alloc(); VolumeKey::new(0, 0); 4096]?;
-    let longest = repeat(rt.alloc(), line, 2047, line)?;
-    assert_eq!(rt; longest.len(), 32768);
-    assert_eq!(rt; judge(longest.as_str(), &mut keys), Ok(2048));
-    let longer = repeat(rt.alloc(), line, 2047, "0,0,512,R,000000\n")?;
-    assert_eq!(rt; longer.len(), 32769);
-    assert_eq!(rt;
-        judge(longer.as_str(), &mut keys),
-        Err(report_of((9, 0, 0)))
-    );
-    Ok(())
-}
+// A line, how often it stands in the text, and what stands behind; how many bytes the text has; into how many places it is read, and
+// what is answered.
+type Limit = (
+    &'static str,
+    usize,
+    &'static str,
+    usize,
+    usize,
+    Result<usize, Numbers>,
+);
+
+// A line of 16 bytes, one of 17, and one of 128 touches.
+const SHORT_LINE: &str = "0,0,512,R,00000\n";
+
+const ONE_BYTE_MORE: &str = "0,0,512,R,000000\n";
+
+const LONG_LINE: &str = "0,0,65536,R,0\n";
+
+const TOO_LONG: Result<usize, Numbers> = Err((9, 0, 0));
+
+const TOO_MANY: Result<usize, Numbers> = Err((16, 33, 0));
+
+const LIMITS: [Limit; 6] = [
+    (SHORT_LINE, 2048, "", 32768, 4096, Ok(2048)),
+    (SHORT_LINE, 2047, ONE_BYTE_MORE, 32769, 4096, TOO_LONG),
+    (LONG_LINE, 32, "", 448, 4096, Ok(4096)),
+    (LONG_LINE, 32, "1,0,512,R,0\n", 460, 4097, TOO_MANY),
+    // the next line's fault comes later
+    (LONG_LINE, 32, "1,0,512,R,0\nx\n", 462, 4097, TOO_MANY),
+    (LONG_LINE, 32, "", 448, 4095, Err((18, 0, 0))),
+];
 
 #[test]
-fn touches_have_a_limit(rt: HostRuntime) -> Result<(), Fail> {
-    // 128 touches
-    let line = "0,0,65536,R,0\n";
-    let mut keys = vec![in rt.alloc(); VolumeKey::new(0, 0); 4097]?;
-    let most = repeat(rt.alloc(), line, 32, "")?;
-    assert_eq!(rt; judge(most.as_str(), &mut keys), Ok(4096));
-    let one_more = repeat(rt.alloc(), line, 32, "1,0,512,R,0\n")?;
-    assert_eq!(rt;
-        judge(one_more.as_str(), &mut keys),
-        Err(report_of((16, 33, 0)))
-    );
-    // the next line's fault comes later
-    let faulty = repeat(rt.alloc(), line, 32, "1,0,512,R,0\nx\n")?;
-    assert_eq!(rt;
-        judge(faulty.as_str(), &mut keys),
-        Err(report_of((16, 33, 0)))
-    );
-    let mut short = vec![in rt.alloc(); VolumeKey::new(0, 0); 4095]?;
-    assert_eq!(rt;
-        judge(most.as_str(), &mut short),
-        Err(report_of((18, 0, 0)))
-    );
+fn traces_have_limits(rt: HostRuntime) -> Result<(), Fail> {
+    for (line, times, last, len, places, answer) in &LIMITS {
+        let text = repeat(rt.alloc(), *line, *times, *last)?;
+        check_eq(text.len(), *len)?;
+        let mut keys = vec![in rt.alloc(); VolumeKey::new(0, 0); *places]?;
+        check_eq(judge(text.as_str(), &mut keys), answer.map_err(report_of))?;
+    }
     Ok(())
 }
 

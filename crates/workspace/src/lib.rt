@@ -20,9 +20,6 @@ pub const SLOTS: usize = 8192;
 
 const _: () = prove!(2 * SLOTS > 3 * MAX_TOUCHES);
 
-#[cfg(test)]
-mod tests;
-
 #[derive(Drop)]
 pub struct Workspace<K> {
     slots: Vec<Slot<K>>,
