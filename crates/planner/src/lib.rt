@@ -4,7 +4,6 @@
 mod asked;
 mod input;
 mod program;
-mod recording;
 
 pub use input::read_text;
 pub use program::{print_refused, tawqeru, words_of};

@@ -1,11 +1,11 @@
 // The program tawqeru: judges its words, reads the trace, and prints the sheet, the plan or the refusal.
 use crate::asked::{Asked, asked_by};
 use crate::input::read_text;
-use crate::recording::Recording;
 use sheet::{HEADER, PLAN_HEADER, PlanLine, Row};
 use std::process::ExitCode;
 use std::{env, io};
 use trace::{Plain, ReplayFault};
+use workspace::Recording;
 
 const USAGE: &str = "usage: tawqeru [FILE] [K H]
        tawqeru --help

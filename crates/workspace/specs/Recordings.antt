@@ -3,7 +3,7 @@ use Rattle.std.specs.Prelude.{vec_len}
 use Rattle.base.specs.declared.limits.TheConstants.{MAX_FRAMES, MAX_TOUCHES}
 use Rattle.workspace.specs.declared.TheConstants.{SLOTS}
 use Rattle.sheet.specs.Rows.{Lent}
-use Rattle.planner.specs.declared.recording.Recording.{Recording}
+use Rattle.workspace.specs.declared.recording.Recording.{Recording}
 
 -- how many places its lists have
 abbrev pub lent_by : Recording → Lent

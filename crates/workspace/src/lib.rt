@@ -1,13 +1,16 @@
 // The lists that the programs lend to the library, on the heap: places for the longest list of touches, and for as many
-// frames as a cache can have.
+// frames as a cache can have; and a recording, which has them beside the text of its trace.
 #![tactic(auto)]
 
 ghost use Rattle.std.specs.Prelude.{◌≡◌, IfOk};
 ghost use Rattle.workspace.specs.Sizes.{FullSize};
 
+mod recording;
+
 use base::{Key, MAX_FRAMES, MAX_TEXT_BYTES, MAX_TOUCHES};
 use index::Slot;
 use planning::Lists;
+pub use recording::Recording;
 use std::alloc::{AllocError, Global};
 
 // One byte past the longest trace shows that a trace is too long.

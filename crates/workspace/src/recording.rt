@@ -4,13 +4,13 @@ ghost use Rattle.trace.specs.Touches.{judged, Written};
 ghost use Rattle.sheet.specs.Rows.{touches_for, sheet_of};
 ghost use Rattle.planning.specs.Plan.{answer_of};
 ghost use Rattle.sheet.specs.PlanLines.{line_of};
-ghost use Rattle.planner.specs.Recordings.{lent_by, most_lent};
+ghost use Rattle.workspace.specs.Recordings.{lent_by, most_lent};
 
+use crate::Workspace;
 use base::{MAX_TOUCHES, VolumeKey};
 use sheet::{PlanLine, Row, plan_of_trace, sheet_of_trace};
 use std::alloc::{AllocError, Global};
 use trace::ReplayFault;
-use workspace::Workspace;
 
 #[derive(Drop)]
 pub struct Recording {
