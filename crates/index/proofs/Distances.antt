@@ -53,3 +53,10 @@ module _ {K : Type 0} (spread : K → ℕ) (n : ℕ) where
   left_less xs ys hole last next in-hole in-last less =
       let s = steps_below n hole last in-hole in-last in
       omega (arith, mul-le-mul_right n less)
+
+  -- one slot further on in the same round
+  pub left_on : (xs : List (Option (Entry K))) (hole last next : ℕ) → hole < n → next < n → steps n hole next ≡ steps n hole last + 1 →
+      left xs hole next < left xs hole last
+  left_on xs hole last next in-hole in_next step =
+      let s = steps_below n hole next in-hole in_next in
+      omega arith

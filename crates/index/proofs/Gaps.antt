@@ -69,11 +69,24 @@ module _ {K : Type 0} (spread : K → ℕ) (n : ℕ) where
         let s = steps_below n hole q gap.inside (below q x held) in
         gap.clear q x held (omega arith) b)
 
+    -- a key's home, and the slot after the last one looked at, are two of the places
+    pub home_inside : (h : ℕ) (k : K) → h ≡ home spread (length xs) k → h < n
+    home_inside h k is = rw (is, gap.long) (home_below spread n k (omega (arith, gap.inside)))
+
+    pub next_inside : (next : ℕ) → next ≡ onward n last → next < n
+    next_inside next is = rw is (onward_below n last gap.looked)
+
+    pub next_within : (next : ℕ) → next ≡ onward n last → next < length xs
+    next_within next is = rw gap.long (next_inside next is)
+
+    pub hole_within : hole < length xs
+    hole_within = rw gap.long gap.inside
+
     module _ (next : ℕ) (is : next ≡ onward n last) (other : next ≡ hole → ⊥) where
       in_next : next < n
-      in_next = rw is (onward_below n last gap.looked)
+      in_next = next_inside next is
 
-      step : steps n hole next ≡ steps n hole last + 1
+      pub step : steps n hole next ≡ steps n hole last + 1
       step = rw is (steps_onward n hole last gap.inside gap.looked (λ e. other (is ∙ e)))
 
       -- no way leads across a free slot

@@ -25,6 +25,13 @@ module _ (n : ℕ) where
   pub steps_round : (a b : ℕ) → a < n → b < n → onward n b ≡ a → steps n a b + 1 ≡ n
   steps_round a b p q e = grind (arith, nat_tests)
 
+  -- the places on the way from a to c, where c is not below a, and where it is
+  pub steps_upward : (a b c : ℕ) → a ≤ c → c < n → b < n → steps n a b < steps n a c → (a ≤ b) × (b < c)
+  steps_upward a b c p q r h = (grind (arith, nat_tests), grind (arith, nat_tests))
+
+  pub steps_around : (a b c : ℕ) → c < a → a ≤ n → b < a → steps n a b < steps n a c → b < c
+  steps_around a b c p q r h = grind (arith, nat_tests)
+
   -- a place on the way divides it
   steps_between : (a b c : ℕ) → a < n → b < n → c < n → steps n a b ≤ steps n a c → steps n b c ≡ steps n a c - steps n a b
   steps_between a b c p q r h = grind (arith, nat_tests)

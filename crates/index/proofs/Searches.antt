@@ -1,17 +1,18 @@
 -- Looking for a key from its home upward: what is known of the slots that were passed.
-use Rattle.std.proofs.Common.{◌≡◌, ℕ, suc, ◌<◌, Bool, true, false, List, [], ◌∷◌, length, get_or, Option, is_some, Some, None}
+use Rattle.std.proofs.Common.{◌≡◌, ℕ, suc, ◌+◌, ◌<◌, ◌≤◌, Bool, true, false, List, [], ◌∷◌, length, get_or, Option, is_some, Some, None}
 use Rattle.std.proofs.Common.{count_by, sym, refl, ◌∙◌, inl, inr, arith}
-use Rattle.std.proofs.lemmas.Bool.{both_ways, cases_eq, cases_order, eq-eqb, ne_eqb, false≢true}
+use Rattle.std.proofs.lemmas.Bool.{both_ways, cases_eq, cases_lt, cases_order, eq-eqb, ne_eqb, false≢true}
 use Rattle.std.proofs.lemmas.Bool.Decides.{nat_tests}
 use Rattle.std.proofs.lemmas.Option.{same_Some, none-some}
 use Rattle.index.specs.declared.slot.Entry.{Entry}
 use Rattle.index.specs.Places.{steps}
 use Rattle.index.specs.Slots.{holds, home, AllReached}
-use Rattle.index.specs.Probes.{Absent, Open, Stops, stop_in, passes}
+use Rattle.index.specs.Probes.{Absent, Open, Passed, Stops, StopsBetween, stop_in, passes}
 use Rattle.index.specs.declared.index.probing.Stop.{Stop}
+use Rattle.index.proofs.Changes.{read_is}
 use Rattle.index.proofs.Counts.{count_by-cons}
 use Rattle.index.proofs.Homes.{home_below}
-use Rattle.index.proofs.Places.{steps_same}
+use Rattle.index.proofs.Places.{steps_same, steps_upward, steps_around}
 
 -- a test that holds of no element, and one that holds of each
 count_none : {X : Type 0} (t : X → Bool) (d : X) (xs : List X) → ((i : ℕ) → i < length xs → t (get_or xs i d) ≡ false) → count_by t xs ≡ 0
@@ -30,6 +31,21 @@ module _ {K : Type 0} (code : K → ℕ) (c : ℕ) where
   passes_taken None e = absurd (false≢true e)
   passes_taken (Some x) e = refl
 
+  -- the search came from one place to another, where it looks at a slot and answers r
+  module _ (xs : List (Option (Entry K))) (from place : ℕ) (slot : Option (Entry K)) (r : Option (Option ℕ))
+      (within : place < length xs) (read : slot ≡ get_or xs place slot) (is : r ≡ stop_in code c slot) where
+    looked_at : stop_in code c (get_or xs place None) ≡ r
+    looked_at = rw (read_is xs place slot slot within (sym read)) (sym is)
+
+    pub stopped : (n : Option ℕ) → r ≡ Some n → stop_in code c (get_or xs place None) ≡ Some n
+    stopped n e = looked_at ∙ e
+
+    pub passed_one_more : r ≡ None → Passed code xs c from place → Passed code xs c from (place + 1)
+    passed_one_more none passed = λ p l b. elim (cases_eq p place) [
+      | inl at ↦ rw (at, looked_at, none) refl
+      | inr other ↦ passed p l (omega arith)
+    ]
+
   passes_apart : (s : Option (Entry K)) → passes code c s ≡ true → holds code c s ≡ false
   passes_apart None e = refl
   passes_apart (Some x) e = grind (arith, nat_tests)
@@ -38,6 +54,32 @@ module _ {K : Type 0} (code spread : K → ℕ) (xs : List (Option (Entry K))) (
   -- how many steps lead from the key's home to a place
   abbrev way : ℕ → ℕ
   way place = steps (length xs) (home spread (length xs) key) place
+
+  -- the first stop from the home, h, up to the last place
+  pub stops_upward : (h c : ℕ) (s : Stop) → h ≡ home spread (length xs) key → c ≡ code key → StopsBetween code xs c h (length xs) (Some s) →
+      Stops code spread xs key (Some s)
+  stops_upward h c s is same found =
+      let upward = rw (is, same) at found in (
+        upward.1,
+        upward.2,
+        λ p l b. let on = steps_upward (length xs) (home spread (length xs) key) p s.place upward.0 upward.1 l b in upward.3 p on.0 on.1,
+      )
+
+  -- where there is none, the first stop from the first place up to the home
+  pub stops_around : (h c : ℕ) (r : Option Stop) → h ≡ home spread (length xs) key → c ≡ code key → h ≤ length xs →
+      Passed code xs c h (length xs) → StopsBetween code xs c 0 h r → Stops code spread xs key r
+  stops_around h c None is same most upward around = rw (← same) (λ p l b. elim (cases_lt p h) [
+    | inl before ↦ around p l before
+    | inr behind ↦ upward p behind b
+  ])
+  stops_around h c (Some s) is same most upward around = rw (← is, ← same) (
+    omega (arith, around.1),
+    around.2,
+    λ p l b. elim (cases_lt p h) [
+      | inl before ↦ around.3 p (omega arith) (steps_around (length xs) h p s.place around.1 most before b)
+      | inr behind ↦ upward p behind l
+    ],
+  )
 
   stops_free : (slot : Option (Entry K)) (n : Option ℕ) → stop_in code (code key) slot ≡ Some n → n ≡ None → slot ≡ None
   stops_free None n at e = refl

@@ -6,9 +6,8 @@ use Rattle.base.specs.Rings.{onward}
 use Rattle.index.specs.Places.{steps}
 use Rattle.index.specs.Slots.{home}
 use Rattle.index.proofs.Changes.{read_is}
-use Rattle.index.proofs.Gaps.{Ahead, Gap, gap_stays, gap_moves}
-use Rattle.index.proofs.Distances.{left, nearer, left_less}
-use Rattle.index.proofs.Places.{onward_below}
+use Rattle.index.proofs.Gaps.{Ahead, Gap, gap_stays, gap_moves, next_inside, next_within, step}
+use Rattle.index.proofs.Distances.{left, nearer, left_less, left_on}
 
 module _ {K : Type 0} (spread : K → ℕ) (n : ℕ) where
   -- the slot next holds x, whose home is h; a and b are its steps to the hole and to next
@@ -25,7 +24,7 @@ module _ {K : Type 0} (spread : K → ℕ) (n : ℕ) where
       Gap spread n xs hole last → next ≡ onward n last → (next ≡ hole → ⊥) → get_or xs next d ≡ Some x →
       h ≡ home spread (length xs) x.key → a ≡ steps n h hole → b ≡ steps n h next → Turn xs hole last next x h a b
   turned {xs = xs} {last = last} {next = next} {x = x} d gap is other read home to_hole to_next =
-      let inside : next < length xs = rw (gap.long, is) (onward_below n last gap.looked) in
+      let inside = next_within spread n xs _ last gap next is in
       record {
         gap = gap;
         is = is;
@@ -38,7 +37,7 @@ module _ {K : Type 0} (spread : K → ℕ) (n : ℕ) where
 
   module _ {xs : List (Option (Entry K))} {hole last next : ℕ} {x : Entry K} {h a b : ℕ} (t : Turn xs hole last next x h a b) where
     inside : next < length xs
-    inside = rw (t.gap.long, t.is) (onward_below n last t.gap.looked)
+    inside = next_within spread n xs hole last t.gap next t.is
 
     near : a ≡ steps n (home spread n x.key) hole
     near = rw (← t.gap.long) (rw (← t.home) (rw t.gap.long t.to_hole))
@@ -49,6 +48,10 @@ module _ {K : Type 0} (spread : K → ℕ) (n : ℕ) where
     pub turn_stays : b ≤ a → Gap spread n xs hole next
     turn_stays le = gap_stays spread n xs hole last t.gap next t.is t.other x t.held
         (λ on. let p = near in let q = far in omega arith)
+
+    pub turn_on : left spread n xs hole next < left spread n xs hole last
+    turn_on = left_on spread n xs hole last next t.gap.inside (next_inside spread n xs hole last t.gap next t.is)
+        (step spread n xs hole last t.gap next t.is t.other)
 
     module _ (ys : List (Option (Entry K))) (less : a < b) (long : length ys ≡ length xs) (swapped : SwappedAt xs ys hole next) where
       on : Ahead spread n x.key hole next

@@ -17,7 +17,6 @@ pub enum Probe {
 }
 
 // The place from which a key is looked for: by a multiplication and a shift, which take less than a division.
-#[tactic(auto, unfolding(crate::specs::Slots::home))]
 fn home_of<K: Key>(slots: &[Slot<K>], key: &K) -> usize
     ensures { result ≡ home K.Key.spread (length slots.now) key.now }
 {
@@ -57,7 +56,6 @@ fn stop_between<K: Key>(slots: &[Slot<K>], code: u64, from: usize, to: usize) ->
 }
 
 // The first place on the way of a key whose slot is free or holds the key.
-#[tactic(auto, using(crate::proofs::Homes::home_within))]
 fn stop_of<K: Key>(slots: &[Slot<K>], key: &K) -> Option<Stop>
     ensures { Stops K.Key.code K.Key.spread slots.now key.now result }
 {
@@ -86,7 +84,6 @@ pub fn look_up<K: Key>(slots: &[Slot<K>], key: &K) -> Probe
 // Frees a slot, and closes the gap: a later key whose way leads across the free slot moves into it, which frees
 // its own. This ends at a slot that was free before, or in a full table after a whole round without a move,
 // which can be more than one round in all.
-#[tactic(auto, using(crate::proofs::Homes::home_below))]
 pub fn vacate<K: Key>(slots: &mut [Slot<K>], place: usize)
     requires within { place < length slots.old }
     requires reached { AllReached K.Key.spread slots.old }

@@ -28,7 +28,6 @@ impl<K: Key> Index<'_, K> {
     }
 
     // Stores another number with the key that stands in a slot.
-    #[tactic(auto, using(crate::proofs::Changes::within_from_holds))]
     pub(super) fn renumber(&mut self, place: usize, key: K, number: u32)
         requires sound { SoundIndex K.Key.code K.Key.spread self.old }
         requires there { holds K.Key.code (K.Key.code key) (slice_index_or (slots_of self.old) place None) ≡ true }
@@ -50,7 +49,6 @@ impl<K: Key> Index<'_, K> {
     }
 
     // Takes out the key that stands in a slot.
-    #[tactic(auto, using(crate::proofs::Changes::within_from_some))]
     pub(super) fn take_out(&mut self, place: usize)
         requires sound { SoundIndex K.Key.code K.Key.spread self.old }
         requires taken { is_some (slice_index_or (slots_of self.old) place None) ≡ true }

@@ -1,8 +1,16 @@
-use Rattle.std.proofs.Common.{get_or, None, sym, ◌∙◌}
+use Rattle.std.proofs.Common.{◌<◌, length, get_or, None, sym, ◌∙◌, rules}
 use Rattle.index.specs.Slots.{slots_of}
-use Rattle.index.proofs.Changes.{held_entry, within_from_taken, renumbered_size, renumbered_different}
+use Rattle.index.proofs.Changes.{held_entry, within_from_taken, within_from_holds, renumbered_size, renumbered_different}
 use Rattle.index.proofs.Updates.{reached_set, renumbered_map}
 use Rattle.index.proofs.index.Index.renumber.Goals as goal
+
+pub offset_bounds-self-place : goal.offset_bounds-self-place
+offset_bounds-self-place g c =
+    let within : c.args.place < length c.args.self.now.slots.now = within_from_holds g.K.Key.code _ c.args.place _ c.requires.there in
+    search rules
+
+pub bounds-self-place : goal.bounds-self-place
+bounds-self-place g c = within_from_holds g.K.Key.code _ c.args.place _ c.requires.there
 
 pub returns : goal.returns
 returns g c =

@@ -1,8 +1,11 @@
 use Rattle.std.proofs.Common.{get_or, None, arith}
 use Rattle.index.specs.Slots.{slots_of}
-use Rattle.index.proofs.Changes.{some_entry}
+use Rattle.index.proofs.Changes.{some_entry, within_from_some}
 use Rattle.index.proofs.Updates.{removed_size, removed_different, removed_map}
 use Rattle.index.proofs.index.Index.take_out.Goals as goal
+
+pub vacate-requires-clause-within : goal.vacate-requires-clause-within
+vacate-requires-clause-within g c = within_from_some _ c.args.place c.requires.taken
 
 pub overflow_sub-self : goal.overflow_sub-self
 overflow_sub-self g c =
