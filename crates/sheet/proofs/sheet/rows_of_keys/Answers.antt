@@ -1,4 +1,5 @@
-use Rattle.std.proofs.Common.{◌≡◌, ℕ, ◌+◌, ◌<◌, ◌≤◌, List, [], ◌∷◌, ◌++◌, map, length, get_or, take, set, sym, ap, ◌∙◌, arith}
+use Rattle.std.proofs.Common.{◌≡◌, ℕ, ◌+◌, ◌<◌, ◌≤◌, List, [], ◌∷◌, ◌++◌, map, length, get_or, take, set, sym, ap, ◌∙◌, arith, rules}
+use Rattle.std.proofs.lemmas.Grind.{common_steps}
 use Rattle.std.proofs.Math.Seq.{map-set_same}
 use Rattle.std.proofs.lemmas.List.{length-map, take_more, take_more_set, take_all, get_or-map}
 use Rattle.base.specs.Keys.{volume_code}
@@ -80,3 +81,10 @@ returns-clause-serving c =
     let touches = map volume_code c.args.keys.now in
     let six : c.loop-row.row-index ≡ 6 = omega (arith, c.loop-row-test.false, c.loop-row.auto.row-index-end) in
     c.loop-row.invariant.1.1.1.0 ∙ ap (λ n. served_rows touches n c.args.lists.now.serving.now) six
+
+-- By the one tactic that proves it: where the code is wrong no other is tried.
+pub loop-row-init : goal.loop-row-init
+loop-row-init c = grind (arith, common_steps)
+
+pub returns-clause-same : goal.returns-clause-same
+returns-clause-same c = search rules

@@ -1,4 +1,4 @@
-use Rattle.std.proofs.Common.{◌≡◌, ℕ, ◌-◌, ◌≤◌, min, List, map, length, take, Ok, Result, sym, ap, ◌∙◌, subst, arith}
+use Rattle.std.proofs.Common.{◌≡◌, ℕ, ◌-◌, ◌≤◌, min, List, map, length, take, Ok, Result, sym, ap, ◌∙◌, subst, arith, rules}
 use Rattle.std.proofs.lemmas.Bool.{le-leb, true≢false}
 use Rattle.std.proofs.lemmas.List.{length-take}
 use Rattle.base.specs.Keys.{volume_code}
@@ -71,3 +71,7 @@ returns c =
       same = c.rows_of_keys.ensures.same;
       refused = λ e. absurd (true≢false e);
     }
+
+-- By the one tactic that proves it: where the code is wrong no other is tried.
+pub returns-then-lists-lt-MAX_FRAMES-clause-answer : goal.returns-then-lists-lt-MAX_FRAMES-clause-answer
+returns-then-lists-lt-MAX_FRAMES-clause-answer c = search rules

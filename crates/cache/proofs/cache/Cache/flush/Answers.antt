@@ -1,4 +1,4 @@
-use Rattle.std.proofs.Common.{◌≡◌, ◌<◌, arith}
+use Rattle.std.proofs.Common.{◌≡◌, ◌<◌, arith, rules}
 use Rattle.cache.specs.Places.{used}
 use Rattle.cache.specs.Reading.{view}
 use Rattle.cache.proofs.Takings.{flush_takes}
@@ -33,3 +33,7 @@ returns g c =
       flushed = f;
       takes = λ x b. flush_takes g.D.Disk g.P.Policy _ _ x b f;
     }
+
+-- By the one tactic that proves it: where the code is wrong no other is tried.
+pub loop-place-preserved : goal.loop-place-preserved
+loop-place-preserved g c = search rules

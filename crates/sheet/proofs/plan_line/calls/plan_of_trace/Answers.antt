@@ -1,4 +1,5 @@
-use Rattle.std.proofs.Common.{◌≡◌, ℕ, List, map, length, take, Result, sym, ap, ◌∙◌, subst}
+use Rattle.std.proofs.Common.{◌≡◌, ℕ, List, map, length, take, Result, sym, ap, ◌∙◌, subst, arith, rules}
+use Rattle.std.proofs.lemmas.Grind.{common_steps}
 use Rattle.std.proofs.lemmas.List.{length-map}
 use Rattle.base.specs.Keys.{volume_code}
 use Rattle.trace.specs.declared.fault.ReplayFault.{ReplayFault}
@@ -22,3 +23,16 @@ returns-clause-bounded c =
     let P : List ℕ → Type 0 = λ touches. WithinCeiling line touches (take (length touches) serving) in
     let long : length keys ≡ length (map volume_code keys) = sym (length-map keys volume_code) in
     subst P read (subst (λ n. WithinCeiling line (map volume_code keys) (take n serving)) long c.in_ok-plan_of_keys.ensures.bounded)
+
+-- By the one tactic that proves it: where the code is wrong no other is tried.
+pub returns-in_err-plan_of_keys-clause-answer : goal.returns-in_err-plan_of_keys-clause-answer
+returns-in_err-plan_of_keys-clause-answer c = grind (arith, common_steps)
+
+pub returns-in_err-plan_of_keys-clause-serving : goal.returns-in_err-plan_of_keys-clause-serving
+returns-in_err-plan_of_keys-clause-serving c = grind (arith, common_steps)
+
+pub returns-clause-answer : goal.returns-clause-answer
+returns-clause-answer c = search rules
+
+pub returns-clause-serving : goal.returns-clause-serving
+returns-clause-serving c = search rules

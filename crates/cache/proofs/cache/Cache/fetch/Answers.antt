@@ -1,0 +1,9 @@
+use Rattle.std.proofs.Common.{rules}
+use Rattle.cache.proofs.cache.Cache.fetch.Goals as goal
+
+-- By the one tactic that proves it: where the code is wrong no other is tried.
+pub returns-clause-after : goal.returns-clause-after
+returns-clause-after g c = search rules
+
+pub returns-in_err-read-clause-after : goal.returns-in_err-read-clause-after
+returns-in_err-read-clause-after g c = search rules

@@ -1,0 +1,6 @@
+use Rattle.std.proofs.Common.{rules}
+use Rattle.disk.proofs.image.calls.ImageDiskDisk.read.Goals as goal
+
+-- By the one tactic that proves it: where the code is wrong no other is tried.
+pub returns-clause-after : goal.returns-clause-after
+returns-clause-after c = search rules

@@ -1,0 +1,9 @@
+use Rattle.std.proofs.Common.{rules}
+use Rattle.trace.proofs.fields.Fields.opcode.Goals as goal
+
+-- By the one tactic that proves it: where the code is wrong no other is tried.
+pub returns-in-87 : goal.returns-in-87
+returns-in-87 c = search rules
+
+pub returns-in_default : goal.returns-in_default
+returns-in_default c = search rules
