@@ -19,9 +19,7 @@ module _ {K : Type 0} (spread : K → ℕ) (places : ℕ) (key : K) where
   -- where there is none, it is 0
   pub home_within : home spread places key ≤ places
   unfolding home
-  home_within =
-      let most : (spread key % 2 ^ 32) * places ≤ 2 ^ 32 * places = mul-le-mul_right places (omega arith) in
-      omega arith
+  home_within = scaled_most (spread key % 2 ^ 32) places (omega arith)
 
   -- how it is computed from a spread of 32 bits
   pub home_is : (s : ℕ) → s ≡ spread key → s < 2 ^ 32 → s * places / 2 ^ 32 ≡ home spread places key

@@ -13,7 +13,7 @@ use Rattle.index.specs.Slots.{map_of}
 use Rattle.index.specs.Maps.{Map, with_number, after_remove, has, accepts, put_answer, after_put}
 use Rattle.planning.specs.declared.held.HeldKeys.{HeldKeys}
 use Rattle.planning.specs.Frames.{keys_at, Shows, Room, without_frame}
-use Rattle.planning.proofs.Judged.{code_at}
+use Rattle.base.proofs.Codes.{code_at}
 
 -- one frame more, with a new key
 frame_push : (keys : List ℕ) (x y : ℕ) → member x keys ≡ false →

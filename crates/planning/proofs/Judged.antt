@@ -1,7 +1,6 @@
 -- How the lists of a replay are judged.
 use Rattle.std.proofs.Common.{◌≡◌, ℕ, ◌<◌, ◌≤◌, ◌&&◌, leb, List, map, length, get_or, Ok, Err, Result, sym, ap, ◌∙◌, inl, inr, arith}
 use Rattle.std.specs.Result.{result_and}
-use Rattle.std.proofs.lemmas.List.{get_or-map}
 use Rattle.std.proofs.lemmas.Bool.{cases_Bool, and_parts, leb-true}
 use Rattle.base.specs.declared.limits.TheConstants.{MAX_TOUCHES}
 use Rattle.base.specs.declared.refusal.Refusal.{Refusal}
@@ -16,11 +15,6 @@ same_ok a b h = cc
 
 same_err : {A E : Type 0} (a b : E) → ◌≡◌ {A = Result A E} (Err a) (Err b) → a ≡ b
 same_err a b h = cc
-
--- an element's code is the code at its place
-pub code_at : {K : Type 0} (code : K → ℕ) (keys : List K) (i : ℕ) (key : K) → i < length keys → key ≡ get_or keys i key →
-    code key ≡ get_or (map code keys) i 0
-code_at code keys i key l e = ap code e ∙ sym (get_or-map code keys i key 0 l)
 
 -- lists that pass have enough places
 pub record Enough (touches slots k held : ℕ) : Type 0 where

@@ -4,7 +4,7 @@ use Rattle.std.proofs.lemmas.Bool.{cond-true}
 use Rattle.base.specs.Lists.{place_in}
 use Rattle.index.specs.Maps.{Map, empty, after_put, put_answer}
 use Rattle.index.specs.Slots.{map_of, number_of, slots_of}
-use Rattle.planning.proofs.Judged.{code_at}
+use Rattle.base.proofs.Codes.{code_at}
 use Rattle.planning.proofs.Nexts.{Looking, looking_none, looking_more, looking_accepted, found_next}
 use Rattle.planning.proofs.next.next_touches.Goals as goal
 

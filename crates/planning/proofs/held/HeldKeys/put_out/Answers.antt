@@ -2,7 +2,7 @@ use Rattle.std.proofs.Common.{get_or, refl, sym, ap, ◌∙◌}
 use Rattle.std.proofs.lemmas.Bool.{cond-true, lt-ltb}
 use Rattle.index.specs.Maps.{after_remove}
 use Rattle.index.specs.Slots.{map_of}
-use Rattle.planning.proofs.Judged.{code_at}
+use Rattle.base.proofs.Codes.{code_at}
 use Rattle.planning.proofs.held.HeldKeys.put_out.Goals as goal
 
 pub returns-then-frame-self : goal.returns-then-frame-self
