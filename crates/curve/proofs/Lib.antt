@@ -1,0 +1,10 @@
+pub mod Recents
+pub mod Walks
+pub mod Held
+pub mod Machines
+pub mod Measures
+pub mod Tallies
+pub mod Curves
+pub mod Numbered
+pub mod Recorded
+pub mod Paddings

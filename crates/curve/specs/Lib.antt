@@ -1,0 +1,4 @@
+pub mod Distances
+pub mod Recency
+pub mod Curve
+pub mod Points
