@@ -1,4 +1,5 @@
-// What the words of a command line ask for. A number never names a file, so that it is clear which words are numbers.
+// What the words of a command line ask for. A number never names a file, and neither does the word `curve`, so that no word can be meant
+// as either.
 use std::fmt;
 
 #[derive(Clone, Copy)]
@@ -12,6 +13,9 @@ pub enum Asked<'a> {
         frames: usize,
         smaller: usize,
     },
+    Curve {
+        file: Option<&'a str>,
+    },
     Misused(Misuse),
 }
 
@@ -20,6 +24,7 @@ pub enum Misuse {
     NoSuchOption,
     Numbers,
     NumberAsFile,
+    CurveAsFile,
     MoreWords,
 }
 
@@ -29,6 +34,8 @@ impl fmt::Display for Misuse {
             Misuse::NoSuchOption => "there is no such option",
             Misuse::Numbers => "K and H are two numbers, given both or neither",
             Misuse::NumberAsFile => "a number names no file; a file 4 is given as ./4",
+            Misuse::CurveAsFile =>
+                "curve is the last word, and names no file; a file curve is given as ./curve",
             Misuse::MoreWords => "there are more words than a file and two numbers",
         })
     }
@@ -40,6 +47,23 @@ fn number_in(word: &str) -> Option<usize> {
         return None;
     }
     Some(word.parse().unwrap_or(usize::MAX))
+}
+
+const CURVE: &str = "curve";
+
+// The sheet of the trace in a file.
+fn sheet_asked(file: &str) -> Asked<'_> {
+    if number_in(file).is_some() {
+        return Asked::Misused(Misuse::Numbers);
+    }
+    Asked::Sheet { file: Some(file) }
+}
+
+fn curve_asked(file: &str) -> Asked<'_> {
+    if number_in(file).is_some() {
+        return Asked::Misused(Misuse::NumberAsFile);
+    }
+    Asked::Curve { file: Some(file) }
 }
 
 fn plan_asked<'a>(file: Option<&'a str>, frames: &str, smaller: &str) -> Asked<'a> {
@@ -58,8 +82,11 @@ pub fn asked_by(words: &[String]) -> Asked<'_> {
         [] => Asked::Sheet { file: None },
         [word, ..] if word.as_str() == "--help" => Asked::Help,
         [word, ..] if word.starts_with('-') => Asked::Misused(Misuse::NoSuchOption),
-        [word] if number_in(word).is_some() => Asked::Misused(Misuse::Numbers),
-        [file] => Asked::Sheet { file: Some(file) },
+        [word] if word.as_str() == CURVE => Asked::Curve { file: None },
+        [word, ..] if word.as_str() == CURVE => Asked::Misused(Misuse::CurveAsFile),
+        [_, word, _, ..] if word.as_str() == CURVE => Asked::Misused(Misuse::CurveAsFile),
+        [file] => sheet_asked(file),
+        [file, word] if word.as_str() == CURVE => curve_asked(file),
         [frames, smaller] => plan_asked(None, frames, smaller),
         [word, _, _] if number_in(word).is_some() => Asked::Misused(Misuse::NumberAsFile),
         [file, frames, smaller] => plan_asked(Some(file), frames, smaller),

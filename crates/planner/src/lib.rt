@@ -1,4 +1,5 @@
-// What the programs tawqeru and recipe_week do with their words and their trace: the sheet, the plan and refusals as a user meets them.
+// What the programs tawqeru and recipe_week do with their words and their trace: the sheet, the plan, the curve and refusals as
+// a user meets them.
 #![tactic(auto)]
 
 mod asked;

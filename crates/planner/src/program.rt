@@ -1,22 +1,24 @@
-// The program tawqeru: judges its words, reads the trace, and prints the sheet, the plan or the refusal.
+// The program tawqeru: judges its words, reads the trace, and prints the sheet, the plan, the curve or the refusal.
 use crate::asked::{Asked, asked_by};
 use crate::input::read_text;
-use sheet::{HEADER, PLAN_HEADER, PlanLine, Row};
+use curve::CURVE_HEADER;
+use sheet::{HEADER, PLAN_HEADER};
 use std::process::ExitCode;
-use std::{env, io};
+use std::{env, fmt, io};
 use trace::{Plain, ReplayFault};
 use workspace::Recording;
 
-const USAGE: &str = "usage: tawqeru [FILE] [K H]
+const USAGE: &str = "usage: tawqeru [FILE] [K H | curve]
        tawqeru --help
 Prints the sheet of the trace in FILE, or on standard input: the fetches of
 LRU, FIFO, CLOCK and MIN with 1, 2, 3, 4, 8 and 64 frames. With K and H it
 prints the plan for K frames (1 to 64) by a schedule on H (1 to K): the fewest
 fetches on H frames, the ceiling that none of the three exceeds on K, and the
-fetches of each on K. A refused trace or plan gives the line
+fetches of each on K. With the word curve it prints the fetches of LRU with
+each number of frames from 1 to 64. A refused trace or plan gives the line
 refused,NUMBER,LINE,FIELD, with status 0, and the refusal in words on standard
 error. Wrong words end with status 1.
-A number names no file: a file 4 is given as ./4.";
+A number names no file, nor does curve: give such files as ./4 and ./curve.";
 
 // A refusal's line, and beside it, on standard error, the refusal in plain words.
 pub fn print_refused(rt: &HostRuntime, fault: ReplayFault) -> io::Result<()> {
@@ -24,24 +26,19 @@ pub fn print_refused(rt: &HostRuntime, fault: ReplayFault) -> io::Result<()> {
     rt.eprintln(Plain(fault))
 }
 
-fn print_sheet(rt: &HostRuntime, sheet: Result<[Row; 6], ReplayFault>) -> io::Result<()> {
-    match sheet {
-        Ok(rows) => {
-            rt.println(HEADER)?;
-            for row in &rows {
-                rt.println(row)?;
+// A header and the lines below it, or the refusal.
+fn print_lines<T: fmt::Display + Drop, const N: usize>(
+    rt: &HostRuntime,
+    header: &str,
+    lines: Result<[T; N], ReplayFault>,
+) -> io::Result<()> {
+    match lines {
+        Ok(lines) => {
+            rt.println(header)?;
+            for line in &lines {
+                rt.println(line)?;
             }
             Ok(())
-        }
-        Err(fault) => print_refused(rt, fault),
-    }
-}
-
-fn print_plan(rt: &HostRuntime, plan: Result<PlanLine, ReplayFault>) -> io::Result<()> {
-    match plan {
-        Ok(line) => {
-            rt.println(PLAN_HEADER)?;
-            rt.println(line)
         }
         Err(fault) => print_refused(rt, fault),
     }
@@ -57,7 +54,7 @@ fn answer(rt: &HostRuntime, words: &[String]) -> anyhow::Result<ExitCode> {
         }
         Asked::Sheet { file } => {
             let mut recording = Recording::new(rt.alloc(), read_text(rt, file)?)?;
-            print_sheet(rt, recording.sheet())?;
+            print_lines(rt, HEADER, recording.sheet())?;
         }
         Asked::Plan {
             file,
@@ -65,7 +62,12 @@ fn answer(rt: &HostRuntime, words: &[String]) -> anyhow::Result<ExitCode> {
             smaller,
         } => {
             let mut recording = Recording::new(rt.alloc(), read_text(rt, file)?)?;
-            print_plan(rt, recording.plan(frames, smaller))?;
+            let plan = recording.plan(frames, smaller);
+            print_lines(rt, PLAN_HEADER, plan.map(|line| [line]))?;
+        }
+        Asked::Curve { file } => {
+            let mut recording = Recording::new(rt.alloc(), read_text(rt, file)?)?;
+            print_lines(rt, CURVE_HEADER, recording.curve())?;
         }
     }
     Ok(ExitCode::SUCCESS)
