@@ -1,8 +1,11 @@
 // The sheet of a trace, written plainly with the standard library's collections. Its maps have the standard library's hash, or with
 // `--cfg multiplicative` the hash that the index of the program beside it has.
+mod trace;
+
 use std::collections::{HashMap, VecDeque};
-use std::io::{self, Read, Write};
+use std::io::{self, Write};
 use std::process::ExitCode;
+use trace::Key;
 
 #[cfg(multiplicative)]
 use multiplied::Hashing;
@@ -10,13 +13,6 @@ use multiplied::Hashing;
 use std::collections::hash_map::RandomState as Hashing;
 
 const FRAME_COUNTS: [usize; 6] = [1, 2, 3, 4, 8, 64];
-const MOST_BYTES: usize = 32_768;
-const MOST_TOUCHES: usize = 4096;
-const SECTOR: u32 = 512;
-const MOST_SECTORS: u32 = 128;
-
-/// A sector of a unit: the unit above the lower 32 bits, the sector number in them.
-type Key = u64;
 
 /// Numbers of keys.
 type Numbers = HashMap<Key, usize, Hashing>;
@@ -242,48 +238,6 @@ fn furthest(again: &[usize]) -> usize {
     best
 }
 
-fn is_time_stamp(field: &str) -> bool {
-    let (whole, part) = field.split_once('.').unwrap_or((field, "0"));
-    let digits = |text: &str, most| {
-        (1..=most).contains(&text.len()) && text.bytes().all(|byte| byte.is_ascii_digit())
-    };
-    digits(whole, 10) && digits(part, 9)
-}
-
-/// Adds the touches of one line to the keys, or answers nothing where the line is not one of a trace.
-fn read_line(line: &str, keys: &mut Vec<Key>) -> Option<()> {
-    let mut fields = line.split(',');
-    let asu: u8 = fields.next()?.parse().ok()?;
-    let lba: u32 = fields.next()?.parse().ok()?;
-    let size: u32 = fields.next()?.parse().ok()?;
-    let opcode = fields.next()?;
-    let time_stamp = fields.next()?;
-    let sectors = size / SECTOR;
-    if fields.next().is_some()
-        || !size.is_multiple_of(SECTOR)
-        || !(1..=MOST_SECTORS).contains(&sectors)
-        || !matches!(opcode, "R" | "r" | "W" | "w")
-        || !is_time_stamp(time_stamp)
-        || keys.len() + sectors as usize > MOST_TOUCHES
-    {
-        return None;
-    }
-    let last = lba.checked_add(sectors - 1)?;
-    keys.extend((lba..=last).map(|sector| Key::from(asu) << 32 | Key::from(sector)));
-    Some(())
-}
-
-fn read_trace(text: &str) -> Option<Vec<Key>> {
-    if text.len() > MOST_BYTES {
-        return None;
-    }
-    let mut keys = Vec::new();
-    for line in text.lines() {
-        read_line(line, &mut keys)?;
-    }
-    Some(keys)
-}
-
 fn print_sheet(keys: &[Key]) -> io::Result<()> {
     let next = next_touches(keys);
     let mut out = io::stdout().lock();
@@ -299,9 +253,7 @@ fn print_sheet(keys: &[Key]) -> io::Result<()> {
 }
 
 fn main() -> io::Result<ExitCode> {
-    let mut text = String::new();
-    io::stdin().lock().read_to_string(&mut text)?;
-    let Some(keys) = read_trace(&text) else {
+    let Some(keys) = trace::read_keys()? else {
         eprintln!("refused");
         return Ok(ExitCode::FAILURE);
     };

@@ -1,6 +1,6 @@
 -- The cache stays safe from turn to turn.
 use Rattle.cache.specs.Reading.{Safe}
-use Rattle.cache_bench.proofs.write_turns.Given as goal
+use Rattle.bench.proofs.turns.read_turns.Given as goal
 
 abbrev pub invariant-loop-turn : goal.invariant-loop-turn
 invariant-loop-turn g l = Safe g.D.Disk g.P.Policy l.cache

@@ -1,20 +1,14 @@
-// Takes turns of one kind through a cache of 64 frames over an image of 128 sectors, and prints F, with a sum of the
-// bytes that went through the buffer and one of the image at the end. The arguments are the number of turns and the kind.
-#![tactic(auto)]
-
-mod kind;
-
+// Turns of one kind through a cache of 64 frames over an image of 128 sectors. F is printed, with a sum of the bytes that went through the
+// buffer and one of the image at the end.
 ghost use Rattle.std.specs.Prelude.{◌≤◌};
 ghost use Rattle.cache.specs.Reading.{Safe};
 
-use anyhow::anyhow;
+use crate::kind::TurnKind;
 use base::{Geometry, SECTOR_BYTES};
 use cache::{Cache, SetUpCache};
 use disk::{Disk, ImageDisk};
-use kind::Kind;
 use policy::{Lru, Policy};
 use std::alloc::{AllocError, Global};
-use std::env;
 
 const FRAMES: usize = 64;
 
@@ -62,15 +56,15 @@ fn write_turns<D: Disk, P: Policy>(
 }
 
 // F, and the sum of the bytes that went through the buffer.
-fn run_turns(geometry: Geometry, image: &mut [u8], turns: u32, kind: Kind) -> (u64, u8) {
+fn run_turns(geometry: Geometry, image: &mut [u8], turns: u32, kind: TurnKind) -> (u64, u8) {
     let disk = ImageDisk::new(image, &[]);
     let set_up = SetUpCache::<ImageDisk<'_>, Lru>::new(geometry, disk, ());
     let (mut cache, slip) = set_up.start();
     let mut buffer = [0u8; SECTOR_BYTES];
     let sum = match kind {
-        Kind::Hit => read_turns(&mut cache, turns, FRAMES as u32, &mut buffer),
-        Kind::Clean => read_turns(&mut cache, turns, SECTORS, &mut buffer),
-        Kind::Dirty => write_turns(&mut cache, turns, SECTORS, &mut buffer),
+        TurnKind::Hit => read_turns(&mut cache, turns, FRAMES as u32, &mut buffer),
+        TurnKind::Clean => read_turns(&mut cache, turns, SECTORS, &mut buffer),
+        TurnKind::Dirty => write_turns(&mut cache, turns, SECTORS, &mut buffer),
     };
     let fetches = cache.fetches();
     drop(cache.end(slip));
@@ -86,28 +80,11 @@ fn sum_of(image: &[u8]) -> u8 {
     image.iter().fold(0u8, |sum, byte| sum.wrapping_add(*byte))
 }
 
-fn arguments(rt: &HostRuntime) -> anyhow::Result<(u32, Kind)> {
-    let mut args = env::args(rt)?;
-    let _ = args.next();
-    let (Some(turns), Some(kind)) = (args.next(), args.next()) else {
-        return Err(anyhow!("give the number of turns and their kind"));
-    };
-    Ok((
-        turns.as_str().parse::<u32>()?,
-        kind.as_str().parse::<Kind>()?,
-    ))
-}
-
-fn run(rt: &HostRuntime) -> anyhow::Result<()> {
-    let (turns, kind) = arguments(rt)?;
+pub fn print_turns(rt: &HostRuntime, turns: u32, kind: TurnKind) -> anyhow::Result<()> {
     let geometry = Geometry::new(FRAMES, 0).unwrap();
     let mut image = image_of(rt.alloc())?;
     let (fetches, sum) = run_turns(geometry, &mut image, turns, kind);
     let left = sum_of(&image);
     println!(rt; "F is {fetches}, sums {sum} and {left}")?;
     Ok(())
-}
-
-fn main(rt: HostRuntime) -> anyhow::Result<()> {
-    run(&rt)
 }
