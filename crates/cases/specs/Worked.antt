@@ -4,6 +4,7 @@ use Rattle.policy.specs.Machine.{start, fetches}
 use Rattle.policy.specs.Lru.{lru_rules}
 use Rattle.policy.specs.Fifo.{fifo_rules}
 use Rattle.policy.specs.Clock.{clock_rules}
+use Rattle.curve.specs.Distances.{lru_distances, at_least}
 use Rattle.planning.specs.Minimum.{min_fetches}
 use Rattle.planning.specs.Plan.{ceiling}
 
@@ -20,7 +21,7 @@ clock k touches = fetches clock_rules (start clock_rules tt k) touches
 abbrev pub optimum : ℕ → List ℕ → ℕ
 optimum k touches = min_fetches k [] touches
 
--- a list on which FIFO fetches more often with four frames than with three
+-- a list on which FIFO fetches more often with four frames than with three, and LRU less often
 abbrev pub anomaly : List ℕ
 anomaly = 1 ∷ 2 ∷ 3 ∷ 4 ∷ 1 ∷ 2 ∷ 5 ∷ 1 ∷ 2 ∷ 3 ∷ 4 ∷ 5 ∷ []
 
@@ -35,15 +36,21 @@ pair = 1 ∷ 2 ∷ 3 ∷ 2 ∷ 3 ∷ 2 ∷ 3 ∷ 2 ∷ 3 ∷ []
 -- The table: what is counted, and its value.
 abbrev pub examples : List (ℕ × ℕ)
 examples =
-    (lru 3 anomaly, 10)
-    ∷ (fifo 3 anomaly, 9)
-    ∷ (clock 3 anomaly, 9)
-    ∷ (optimum 3 anomaly, 7)
-    ∷ (lru 4 anomaly, 8)
+    -- with four frames in place of three FIFO fetches more, and so does CLOCK
+    (fifo 3 anomaly, 9)
     ∷ (fifo 4 anomaly, 10)
+    ∷ (clock 3 anomaly, 9)
     ∷ (clock 4 anomaly, 10)
-    ∷ (optimum 4 anomaly, 6)
+    -- LRU and the optimum never do
+    ∷ (lru 3 anomaly, 10)
+    ∷ (lru 4 anomaly, 8)
     ∷ (optimum 2 anomaly, 9)
+    ∷ (optimum 3 anomaly, 7)
+    ∷ (optimum 4 anomaly, 6)
+    -- LRU's fetches are the touches at that distance or more
+    ∷ (at_least 3 (lru_distances anomaly), 10)
+    ∷ (at_least 4 (lru_distances anomaly), 8)
+    -- other lists, and ceilings
     ∷ (clock 2 marking, 4)
     ∷ (optimum 2 pair, 3)
     ∷ (ceiling 2 2 (optimum 2 pair), 8)

@@ -50,6 +50,11 @@ pub fn different_sectors(heap: Global, count: u32) -> Result<Vec<Sector>, AllocE
     (0..count).map(|number| Sector { number }).collect(heap)
 }
 
+// Whether every place of a list is as it was filled.
+pub fn has_fill<T: PartialEq>(list: &[T], fill: &T) -> bool {
+    list.iter().all(|item| *item == *fill)
+}
+
 // What a replay on so many frames fetches.
 fn fetches_of<P: Policy + Drop, K: Key>(
     setting: P::Setting,

@@ -17,6 +17,10 @@ mod cache_sessions;
 #[cfg(test)]
 mod cache_sizes;
 #[cfg(test)]
+mod curve_cases;
+#[cfg(test)]
+mod curve_limits;
+#[cfg(test)]
 mod disk_helpers;
 #[cfg(test)]
 mod helpers;
@@ -49,7 +53,7 @@ mod turn_helpers;
 #[cfg(test)]
 mod workspace_cases;
 
-// The list of touches of most examples. On it FIFO fetches more often with four frames than with three.
+// The list of touches of most examples. On it FIFO fetches more often with four frames than with three, and LRU less often.
 pub fn anomaly_touches() -> [u32; 12]
     ensures list { result ≡ anomaly }
     ensures worked { Agree examples }

@@ -1,6 +1,7 @@
 // The fewest fetches and forecasts, and what a trace costs.
 use crate::anomaly_touches;
 use crate::helpers::*;
+use crate::trace_helpers::ANOMALY_TRACE;
 use base::{Key, Refusal, Sector, VolumeKey};
 use index::Slot;
 use planning::{Forecast, Lists, Plan, forecast_touches, plan_touches};
@@ -85,12 +86,6 @@ fn forecasts_have_all_three_counts(rt: HostRuntime) -> Result<(), Fail> {
     check_eq(more_frames, Err(Refusal::SmallerFrameCount))
 }
 
-// The same touches as a trace.
-const TEXT: &str = "\
-    0,1,512,R,0\n0,2,512,R,0\n0,3,512,R,0\n0,4,512,R,0\n\
-    0,1,512,R,0\n0,2,512,R,0\n0,5,512,R,0\n\
-    0,1,512,R,0\n0,2,512,R,0\n0,3,512,R,0\n0,4,512,R,0\n0,5,512,R,0\n";
-
 fn check_rows(
     keys: &[VolumeKey],
     slots: &mut [Slot<VolumeKey>],
@@ -106,6 +101,6 @@ fn check_rows(
 #[test]
 fn traces_have_their_counts(rt: HostRuntime) -> Result<(), Fail> {
     let mut keys = [VolumeKey::new(9, 9); 12];
-    check_eq(read_trace(TEXT.as_bytes(), &mut keys), Ok(12))?;
+    check_eq(read_trace(ANOMALY_TRACE.as_bytes(), &mut keys), Ok(12))?;
     check_rows(&keys, &mut [None; 12], &mut [0; 12])
 }

@@ -22,10 +22,6 @@ const FILL_FRAME: u8 = 7;
 // and what is answered.
 type Case = (usize, usize, [usize; 4], Result<(), Refusal>);
 
-fn has_fill<T: PartialEq>(list: &[T], fill: &T) -> bool {
-    list.iter().all(|item| *item == *fill)
-}
-
 // Whether a plan is refused, and whether the lists are as before.
 fn judge_plan(
     heap: Global,

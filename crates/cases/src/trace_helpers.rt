@@ -1,4 +1,4 @@
-// What reading a trace answers, where a fault is told by what is reported of it.
+// A trace that several groups of tests use, and what reading a trace answers, where a fault is told by what is reported of it.
 use base::VolumeKey;
 use trace::{Report, read_trace};
 
@@ -17,3 +17,9 @@ pub fn report_of(numbers: Numbers) -> Report {
         field,
     }
 }
+
+// The touches of `anomaly_touches` as a trace.
+pub const ANOMALY_TRACE: &str = "\
+    0,1,512,R,0\n0,2,512,R,0\n0,3,512,R,0\n0,4,512,R,0\n\
+    0,1,512,R,0\n0,2,512,R,0\n0,5,512,R,0\n\
+    0,1,512,R,0\n0,2,512,R,0\n0,3,512,R,0\n0,4,512,R,0\n0,5,512,R,0\n";
