@@ -3,7 +3,6 @@ use Rattle.std.proofs.Common.{◌≡◌, ℕ, zero, suc, ◌+◌, ◌≤◌, ◌
 use Rattle.std.proofs.Common.{sym, refl, ap, ◌∙◌, ⊎_elim, arith}
 use Rattle.std.proofs.lemmas.Bool.Decides.{nat_tests}
 use Rattle.std.proofs.lemmas.Bool.{cases_lt, le-ltb, cond_both}
-use Rattle.std.proofs.lemmas.List.Sums.{sum_by-cons}
 use Rattle.std.proofs.lemmas.List.{length_push, length-set, take_all}
 use Rattle.base.specs.Lists.{member, place_in, Apart, without}
 use Rattle.policy.specs.Machine.{Machine, put, start, hit, fetch, touch, fetches}
@@ -16,6 +15,7 @@ use Rattle.policy.specs.Lru.{lru_rules}
 use Rattle.curve.specs.Distances.{distance, distances_after, at_least}
 use Rattle.curve.specs.Recency.{to_front}
 use Rattle.curve.proofs.Recents.{recent, apart_recent, front_recent, held_recent}
+use Rattle.curve.proofs.Tallies.{at_least-cons}
 use Rattle.curve.proofs.Held.{held_in, held_member, held_hit, held_room, held_full}
 
 -- the keys that a machine with a queue holds, those of the last frame to go first
@@ -139,9 +139,6 @@ follows_start k some = record {
   once = tt;
   holds = sym (take_all k [] (omega arith));
 }
-
-at_least-cons : (k d : ℕ) (ds : List ℕ) → at_least k (d ∷ ds) ≡ cond (leb k d) 1 0 + at_least k ds
-at_least-cons k d ds = sum_by-cons (λ x. cond (leb k x) 1 0) d ds
 
 -- a touch is a fetch exactly when its distance is k or more
 pub fetches_after : {k : ℕ} {past : List ℕ} (far : ℕ) → k ≤ far → (m : Machine Queue) → Follows k past m → (xs : List ℕ) →

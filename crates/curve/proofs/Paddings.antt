@@ -56,9 +56,6 @@ module _ (far x : ℕ) (keys : List ℕ) (fits : length keys ≤ far) where
   abbrev zeros : ℕ → List ℕ
   zeros n = replicate n 0
 
-  padded_length : length (padded far keys) ≡ far
-  padded_length = length-append keys (zeros (far - length keys)) ∙ rw length-replicate (omega arith)
-
   module _ (e : member x keys ≡ true) where
     many : length (x ∷ without x keys) ≡ length keys
     many = length_without x keys e
@@ -148,3 +145,43 @@ padded_is r keys e n fits =
 -- at most the most keys are in front
 pub front_most : (far x : ℕ) (keys : List ℕ) → length (to_front far x keys) ≤ far
 front_most far x keys = omega (arith, length-take far (x ∷ without x keys))
+
+-- What a touch of x answers, and what it leaves of a list with these keys.
+pub record Touched (x : ℕ) (keys : List ℕ) (answer : ℕ) (r : Recency) : Type 0 where
+  pub found : answer ≡ found_at MAX_FRAMES x keys
+  pub fronted : keys_in r ≡ to_front MAX_FRAMES x keys
+  pub behind : Padded r
+
+-- The walk of a touch of x has answered its place and left its codes, over a list with keys and zeros behind them.
+module _ (x : ℕ) (r : Recency) (s : Padded r) (place : ℕ) (after : List ℕ)
+    (ep : place ≡ found_at MAX_FRAMES x r.codes) (ea : after ≡ to_front MAX_FRAMES x r.codes) where
+  abbrev held : List ℕ
+  held = keys_in r
+
+  at : place ≡ found_at MAX_FRAMES x (padded MAX_FRAMES held)
+  at = ep ∙ ap (found_at MAX_FRAMES x) s.codes
+
+  -- where so many keys are there afterwards, x is in front of them
+  touched : (answer len : ℕ) → answer ≡ found_at MAX_FRAMES x held →
+      Fronted MAX_FRAMES x held (to_front MAX_FRAMES x (padded MAX_FRAMES held)) len →
+      Touched x held answer (record { codes = after; len = len })
+  touched answer len found f =
+      let is = padded_is (record { codes = after; len = len }) (to_front MAX_FRAMES x held)
+      (ea ∙ ap (to_front MAX_FRAMES x) s.codes ∙ f.codes) f.counted (front_most MAX_FRAMES x held) in
+      record { found = found; fronted = is.0; behind = is.1 }
+
+  -- a key that is held leaves as many
+  pub touched_held : place < r.len → Touched x held place (record { codes = after; len = r.len })
+  touched_held l =
+      let e = held_if MAX_FRAMES x held s.fits (omega (arith, at, s.len, l)) in
+      let f = held_fronted MAX_FRAMES x held s.fits e in
+      touched place r.len (at ∙ held_place MAX_FRAMES x held s.fits e) (record { codes = f.codes; counted = s.len ∙ f.counted })
+
+  -- a new one is one more, up to the most
+  pub touched_new : (len : ℕ) → len ≡ min MAX_FRAMES (r.len + 1) → r.len ≤ place →
+      Touched x held MAX_FRAMES (record { codes = after; len = len })
+  touched_new len more l =
+      let e = new_if MAX_FRAMES x held s.fits (omega (arith, at, s.len, l)) in
+      let f = new_fronted MAX_FRAMES x held s.fits e in
+      let counted = more ∙ ap (λ n. min MAX_FRAMES (n + 1)) s.len ∙ f.counted in
+      touched MAX_FRAMES len (rw e refl) (record { codes = f.codes; counted = counted })

@@ -1,5 +1,5 @@
-// What the words of a command line ask for. A number never names a file, and neither does the word `curve`, so that no word can be meant
-// as either.
+// What the words of a command line ask for. A number never names a file, and neither does the word `curve`: what a word means does not
+// depend on which files are there.
 use std::fmt;
 
 #[derive(Clone, Copy)]
