@@ -1,5 +1,5 @@
 -- How the slots of an index hold its map, and the property that every call needs and keeps.
-use Rattle.std.specs.Prelude.{◌≡◌, ℕ, ◌*◌, ◌/◌, ◌%◌, ◌^◌, ◌<◌, ◌≤◌, ◌==◌, Bool, true, false, cond}
+use Rattle.std.specs.Prelude.{◌≡◌, ℕ, ◌+◌, ◌*◌, ◌/◌, ◌%◌, ◌^◌, ◌<◌, ◌≤◌, ◌==◌, Bool, true, false, cond}
 use Rattle.std.specs.Prelude.{List, [], ◌∷◌, length, slice_index_or, count_by, Option, is_some, Some, None}
 use Rattle.index.specs.declared.slot.Entry.{Entry}
 use Rattle.index.specs.declared.index.Index.{Index}
@@ -29,9 +29,13 @@ slots_map code slots = record { at = number_of code slots; size = count_by is_so
 abbrev pub map_of : {K : Type 0} → (K → ℕ) → Index K → Map
 map_of code index = slots_map code (slots_of index)
 
--- the place, of so many, from which a key is looked for: its spread, as a fraction of 2 ^ 32, of the places
+-- a spread scattered over 32 bits, so that keys at equal distances from one another do not come together
+unfoldable pub scattered : ℕ → ℕ
+scattered spread = spread * (spread * 2 + 2654435769) % 2 ^ 32
+
+-- the place, of so many, from which a key is looked for: its scattered spread, as a fraction of 2 ^ 32, of the places
 unfoldable pub home : {K : Type 0} → (K → ℕ) → ℕ → K → ℕ
-home spread places key = (spread key % 2 ^ 32) * places / 2 ^ 32
+home spread places key = scattered (spread key) * places / 2 ^ 32
 
 -- whether a place comes before another on the way from a key's home
 abbrev pub Before : {K : Type 0} → (K → ℕ) → List (Option (Entry K)) → K → ℕ → ℕ → Type 0

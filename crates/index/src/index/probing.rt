@@ -1,7 +1,7 @@
 // Where a key stands, and how a slot is freed. The way of a key leads from its home upward, slot by slot
 // and from the last on to the first, and ends at its own slot or at a free one.
 ghost use Rattle.std.specs.Prelude.{◌≡◌, ◌<◌, ◌≤◌, length};
-ghost use Rattle.index.specs.Slots.{home, AllReached};
+ghost use Rattle.index.specs.Slots.{scattered, home, AllReached};
 ghost use Rattle.index.specs.Probes.{stop_in, Probed, Stops, StopsBetween, Vacated};
 
 use crate::ring::steps;
@@ -16,11 +16,19 @@ pub enum Probe {
     Full,
 }
 
+// A spread scattered over its 32 bits. The spreads of sectors and of volume keys are products with a constant: keys at equal distances have
+// spreads at equal distances, which for some distances lie close together. Squared, they do not stay at equal distances.
+fn scattered(spread: u32) -> u32
+    ensures { result ≡ scattered spread }
+{
+    spread.wrapping_mul(spread.wrapping_mul(2).wrapping_add(0x9e37_79b9))
+}
+
 // The place from which a key is looked for: by a multiplication and a shift, which take less than a division.
 fn home_of<K: Key>(slots: &[Slot<K>], key: &K) -> usize
     ensures { result ≡ home K.Key.spread (length slots.now) key.now }
 {
-    ((u128::from(key.spread()) * slots.len() as u128) >> 32) as usize
+    ((u128::from(scattered(key.spread())) * slots.len() as u128) >> 32) as usize
 }
 
 // Where a search stops: at a free slot, or at one that holds the key, with its number.
