@@ -4,7 +4,7 @@ use crate::trace_helpers::{Numbers, judge, report_of};
 use base::VolumeKey;
 use std::alloc::{AllocError, Global};
 use std::test::Fail;
-use trace::Report;
+use trace::{Report, judge_trace};
 
 // A line so many times, and one text more.
 fn repeat(heap: Global, line: &str, times: usize, last: &str) -> Result<String, AllocError> {
@@ -35,10 +35,11 @@ const TOO_LONG: Result<usize, Numbers> = Err((9, 0, 0));
 
 const TOO_MANY: Result<usize, Numbers> = Err((16, 33, 0));
 
-const LIMITS: [Limit; 6] = [
+const LIMITS: [Limit; 7] = [
     (SHORT_LINE, 2048, "", 32768, 4096, Ok(2048)),
     (SHORT_LINE, 2047, ONE_BYTE_MORE, 32769, 4096, TOO_LONG),
     (LONG_LINE, 32, "", 448, 4096, Ok(4096)),
+    (LONG_LINE, 32, "", 448, 4097, Ok(4096)),
     (LONG_LINE, 32, "1,0,512,R,0\n", 460, 4097, TOO_MANY),
     // the next line's fault comes later
     (LONG_LINE, 32, "1,0,512,R,0\nx\n", 462, 4097, TOO_MANY),
@@ -50,8 +51,11 @@ fn traces_have_limits(rt: HostRuntime) -> Result<(), Fail> {
     for (line, times, last, len, places, answer) in &LIMITS {
         let text = repeat(rt.alloc(), *line, *times, *last)?;
         check_eq(text.len(), *len)?;
+        let expected = answer.map_err(report_of);
+        let judged = judge_trace(text.as_bytes(), *places).map(|trace| trace.touches());
+        check_eq(judged.map_err(|fault| fault.report()), expected)?;
         let mut keys = vec![in rt.alloc(); VolumeKey::new(0, 0); *places]?;
-        check_eq(judge(text.as_str(), &mut keys), answer.map_err(report_of))?;
+        check_eq(judge(text.as_str(), &mut keys), expected)?;
     }
     Ok(())
 }

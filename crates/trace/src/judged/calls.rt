@@ -38,6 +38,13 @@ pub fn judge_trace(text: &[u8], places: usize) -> Result<JudgedTrace<'_>, Replay
 }
 
 impl JudgedTrace<'_> {
+    // How many touches it has.
+    pub fn touches(&self) -> usize
+        ensures { result ≡ length (trace_touches self.now) }
+    {
+        self.touches
+    }
+
     // Writes a key for each touch, and answers how many.
     pub fn read_into(&self, keys: &mut [VolumeKey]) -> Result<usize, ReplayFault>
         ensures answer { result ≡ counted (placed (length keys.old) (trace_touches self.now)) }
