@@ -20,10 +20,12 @@ refused,NUMBER,LINE,FIELD, with status 0, and the refusal in words on standard
 error. Wrong words end with status 1.
 A number names no file, nor does curve: give such files as ./4 and ./curve.";
 
-// A refusal's line, and beside it, on standard error, the refusal in plain words.
+// A refusal's line, and beside it, on standard error, the refusal in plain words. The line is the answer: it stands as well where
+// standard error takes nothing.
 pub fn print_refused(rt: &HostRuntime, fault: ReplayFault) -> io::Result<()> {
     rt.println(fault)?;
-    rt.eprintln(Plain(fault))
+    let _ = rt.eprintln(Plain(fault));
+    Ok(())
 }
 
 // A header and the lines below it, or the refusal.

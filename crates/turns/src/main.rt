@@ -33,18 +33,18 @@ fn turns_of_tasks(heap: Global) -> Result<Vec<Turn>, AllocError> {
     ]?)
 }
 
+// A turn's line, in one write.
 fn print_turn(rt: &HostRuntime, turn: &Turn) -> io::Result<()> {
-    print!(rt;
-        "task {}: {} sector {}: ",
-        turn.task, turn.request, turn.sector
-    )?;
+    let (task, request, sector) = (turn.task, turn.request, turn.sector);
     match turn.answer {
         Some(Ok(())) => {
             let first = turn.buffer.first().copied().unwrap_or(0);
-            println!(rt; "served, first byte {first}")
+            println!(rt; "task {task}: {request} sector {sector}: served, first byte {first}")
         }
-        Some(Err(refusal)) => println!(rt; "refused by {refusal}"),
-        None => println!(rt; "not taken"),
+        Some(Err(refusal)) => println!(rt;
+            "task {task}: {request} sector {sector}: refused by {refusal}"
+        ),
+        None => println!(rt; "task {task}: {request} sector {sector}: not taken"),
     }
 }
 
