@@ -55,6 +55,9 @@ examples =
     ∷ (optimum 2 pair, 3)
     ∷ (ceiling 2 2 (optimum 2 pair), 8)
     ∷ (ceiling 64 32 1000, 2003)
+    ∷ (ceiling 3 2 5, 10)
+    ∷ (ceiling 4 2 0, 4)
+    ∷ (ceiling 18446744073709551615 1 18446744073709551615, 36893488147419103230)
     ∷ []
 
 -- in every row what is counted is the value

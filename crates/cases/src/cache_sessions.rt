@@ -114,10 +114,16 @@ fn pins_are_refused(rt: HostRuntime) -> Result<(), Fail> {
     check_session::<Lru>(rt.alloc(), (), &PINS)
 }
 
-// Pinned sectors are no touches of the frames.
+// Pinned sectors are no touches of the frames. Some pins between them are refused.
 const PINNED: Session<'static> = Session {
     pin_places: 2,
-    pins: &[(1, Ok(())), (0, Ok(()))],
+    pins: &[
+        (1, Ok(())),
+        (2, Err(Refusal::DeadSector)),
+        (4, Err(Refusal::NoSuchSector)),
+        (1, Err(Refusal::AlreadyPinned)),
+        (0, Ok(())),
+    ],
     turns: &[
         (1, Request::Read, 1, (512, BLANK), Ok(()), 11),
         (1, Request::Write, 1, (512, 61), Ok(()), 61),

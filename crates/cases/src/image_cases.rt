@@ -32,8 +32,9 @@ const REFUSED: [Case; 8] = [
 
 const READ: [Case; 1] = [(1, Request::Read, 3, (512, BLANK), Ok(()), 13)];
 
-const WRITTEN: [Case; 3] = [
-    (1, Request::Write, 1, (512, 99), Ok(()), 99),
+const WRITTEN: [Case; 1] = [(1, Request::Write, 1, (512, 99), Ok(()), 99)];
+
+const READ_AND_WRITTEN: [Case; 2] = [
     (1, Request::Read, 1, (512, BLANK), Ok(()), 99),
     (1, Request::Write, 3, (512, 98), Ok(()), 98),
 ];
@@ -43,7 +44,8 @@ fn check_disk(heap: Global, image: &mut [u8]) -> Result<(), Fail> {
     check_eq(disk.count(), 4)?;
     check_served(heap, &mut disk, &REFUSED, (0, 0))?;
     check_served(heap, &mut disk, &READ, (1, 0))?;
-    check_served(heap, &mut disk, &WRITTEN, (2, 2))
+    check_served(heap, &mut disk, &WRITTEN, (1, 1))?;
+    check_served(heap, &mut disk, &READ_AND_WRITTEN, (2, 2))
 }
 
 #[test]
