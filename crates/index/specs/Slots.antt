@@ -29,7 +29,7 @@ slots_map code slots = record { at = number_of code slots; size = count_by is_so
 abbrev pub map_of : {K : Type 0} → (K → ℕ) → Index K → Map
 map_of code index = slots_map code (slots_of index)
 
--- a spread scattered over 32 bits, so that keys at equal distances from one another do not come together
+-- a spread scattered over 32 bits, by a square: keys at equal distances from one another seldom come together
 unfoldable pub scattered : ℕ → ℕ
 scattered spread = spread * (spread * 2 + 2654435769) % 2 ^ 32
 

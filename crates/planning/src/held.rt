@@ -12,7 +12,7 @@ use base::Key;
 use index::{Index, Slot};
 
 // How many slots the index has for a frame, so that few keys collide.
-const SLOTS_PER_FRAME: usize = 16;
+const SLOTS_PER_FRAME: usize = 32;
 
 #[derive(Drop)]
 pub struct HeldKeys<'a, K> {

@@ -17,14 +17,14 @@ pub enum Probe {
 }
 
 // A spread scattered over its 32 bits. The spreads of sectors and of volume keys are products with a constant: keys at equal distances have
-// spreads at equal distances, which for some distances lie close together. Squared, they do not stay at equal distances.
+// spreads at equal distances, which for some distances lie close together. Squared, they seldom do.
 fn scattered(spread: u32) -> u32
     ensures { result ≡ scattered spread }
 {
     spread.wrapping_mul(spread.wrapping_mul(2).wrapping_add(0x9e37_79b9))
 }
 
-// The place from which a key is looked for: by a multiplication and a shift, which take less than a division.
+// The place from which a key is looked for: a fraction of the places, which takes less than the remainder of a division.
 fn home_of<K: Key>(slots: &[Slot<K>], key: &K) -> usize
     ensures { result ≡ home K.Key.spread (length slots.now) key.now }
 {
