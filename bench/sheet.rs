@@ -1,5 +1,5 @@
 // The sheet of a trace, written plainly with the standard library's collections. Its maps have the standard library's hash, or with
-// `--cfg multiplicative` the hash that the index of the program beside it has.
+// `--cfg multiplicative` a key's spread in the program beside it, which scatters it once more.
 mod trace;
 
 use std::collections::{HashMap, VecDeque};
